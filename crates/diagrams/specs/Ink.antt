@@ -145,7 +145,7 @@ table_text tables.Compared = codes "compare"
 table_text tables.Info = codes "database "
 table_text tables.Session = codes "session "
 
--- A part of a total, scaled to a number from 0 to 400. The total is scaled to 400.
+-- The length of a part of a total on a scale from 0 to 400, with 400 as the length of the total.
 abbrev pub share : ℕ → ℕ → ℕ
 share part all = if all == 0 then 400 else (if nat_le 400 (part * 400 / all) then 400 else part * 400 / all)
 

@@ -15,7 +15,7 @@ pub struct Point {
     count: usize,
 }
 
-/// A branch, which is a run of consecutive revisions of an ancestry.
+/// A branch, which consists of consecutive revisions of an ancestry.
 #[derive(Drop)]
 struct Branch {
     /// The parent of the branch's first revision, if the parent is known.

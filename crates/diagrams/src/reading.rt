@@ -72,7 +72,8 @@ fn read_leaf(
     }
 }
 
-/// Builds a leaf from an ancestry, newest first. Returns `None` if the ancestry is empty.
+/// Builds a leaf from an ancestry, which is given with the newest revision first. Returns `None` if the ancestry is
+/// empty.
 fn leaf_of(live: bool, revs: &[Rev]) -> Option<Leaf>
     ensures some { IfSome result (λ l. (head_of revs.now ≡ Some l.rev) × (l.live ≡ live)) }
     ensures none { IfNone result (head_of revs.now ≡ None) }
