@@ -9,8 +9,8 @@ use std::process::Abort;
 /// The number of windows of a front.
 const WINDOWS: usize = 20;
 
-/// Returns the expected low water of a front. `marks[i]` states whether the window (start + 10 i, start + 10 i + 10] is
-/// done.
+/// Returns the expected low water of a front, which is the sequence up to which all windows of the front are done.
+/// `marks[i]` states whether the window (start + 10 i, start + 10 i + 10] is done.
 fn low_water(start: u64, marks: &[bool; WINDOWS]) -> u64 {
     let mut water = start;
     for mark in marks {

@@ -42,7 +42,7 @@ fn at<'a>(rt: &impl Abort, net: &'a Net<Rules>, place: usize) -> &'a Peer<Rules>
     net.peer(place).expect(rt, "a peer")
 }
 
-/// Asserts that all audits are clean.
+/// Asserts that no audit finds an uncovered leaf.
 fn assert_clean(rt: &impl Abort, alloc: Global, net: &Net<Rules>) {
     for one in 0..PEERS {
         for other in 0..PEERS {

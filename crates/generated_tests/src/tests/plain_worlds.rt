@@ -235,7 +235,7 @@ impl Sessions {
         end
     }
 
-    /// Returns the low water of a session.
+    /// Returns the low water of a session, which is the sequence up to which all windows of the session are done.
     fn low_water(&self, session: Session) -> u64 {
         let mut low = session.done.start;
         for window in &self.windows {
@@ -258,8 +258,9 @@ impl Sessions {
         0
     }
 
-    /// Begins a session in the log's life, unless a session has the same id or the goal is below the session's start.
-    /// The session starts at the common checkpoint of the source's log and the target's sessions.
+    /// Begins a session with the log's life (the number of the source's incarnation), unless a session has the same id
+    /// or the goal is below the session's start. The session starts at the common checkpoint of the source's log and
+    /// the target's sessions.
     fn begin(&mut self, rt: &impl Abort, session: u128, log: &SourceLog, goal: u64, time: u64) {
         let start = self.agreed(&log.entries);
         if start <= goal && self.get(session).is_none() {
@@ -465,7 +466,8 @@ impl PlainWorld {
         }
     }
 
-    /// Returns the numbers of windows, requests, parcels, entries and logs in the message bag.
+    /// Returns the numbers of windows, requests, parcels, entries and logs in the message bag, which has the messages
+    /// in transit.
     pub(crate) fn sizes(&self) -> (usize, usize, usize, usize, usize) {
         (
             self.windows.len(),
@@ -554,7 +556,8 @@ impl PlainWorld {
         self.logs.push(log).expect(rt, "memory");
     }
 
-    /// Begins a session from a log in the message bag, if the log exists and `Sessions::begin` accepts the session.
+    /// Begins a session from a log in the message bag (the messages in transit), if the log exists and
+    /// `Sessions::begin` accepts the session.
     pub(crate) fn begin(
         &mut self,
         rt: &impl Abort,
