@@ -1,4 +1,4 @@
--- Revisions by document, in the order in which the documents and revisions first appear.
+-- Defines lists of documents, each with its revisions, in the order in which the documents and revisions first appear.
 use Rattle.std.specs.Prelude.{ℕ, List, [], ◌∷◌, ◌++◌, if◌then◌else◌, Option, None, Some, map, bytes_eq, String, string_bytes}
 use Rattle.std.specs.Global.{Global}
 use Rattle.std.specs.List.{list_any}

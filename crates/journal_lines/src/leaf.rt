@@ -60,7 +60,7 @@ impl Leaf {
         self.start.saturating_sub(index as u64)
     }
 
-    /// Whether the given revision is the leaf or one of its ancestors.
+    /// Whether the given revision is the leaf or one of the leaf's ancestors.
     pub fn knows(&self, alloc: Global, rev: &str) -> Result<bool, AllocError>
         ensures { IfOk result (λ knows. knows ≡ knows_rev (leaf_view self.now) rev.now) }
     {
