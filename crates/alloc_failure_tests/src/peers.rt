@@ -272,7 +272,8 @@ fn tell(rt: &impl Print, settled: Settled, report: Report, sequence: u64) -> Res
 }
 
 /// Runs the session, and returns the numbers of settled documents, the report, and the target's update sequence. Before
-/// the session, the target has a tree that contradicts a tree of the source.
+/// the session, the target has a tree that contradicts a tree of the source: a revision has different parents in the
+/// two trees.
 fn session(
     alloc: Global,
     source: &mut Peer<Rules>,

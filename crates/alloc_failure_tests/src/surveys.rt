@@ -11,7 +11,8 @@ use repl_target::{Peer, Rules};
 use rev_tree::Tree;
 use std::alloc::{AllocError, Global};
 
-/// Two leaves of a document. The target has one of the two leaves, and contradicts the ancestry of the other leaf.
+/// Two leaves of a document. The target has one of the two leaves, and has a different parent for a revision in the
+/// ancestry of the other leaf.
 const SOURCE: [&str; 2] = [
     r#"{"_id":"d","_revisions":{"start":3,"ids":["d","b","a"]}}"#,
     r#"{"_id":"d","_revisions":{"start":2,"ids":["c","a"]}}"#,

@@ -28,10 +28,10 @@ struct Seen {
     sizes: (usize, usize, usize, usize, usize),
 }
 
-/// Each row has values that the test may observe after a step has failed, and the index of the step with which the test
-/// then continues. The step that settles a parcel has several rows, because the step may fail after it has settled a
-/// part of the parcel. The test does not observe the source's log and backups, because the test may repeat the steps
-/// that store a log entry or back up the source.
+/// Each row of the table has values that the test may observe after a step has failed, and the index of the step with
+/// which the test then continues. The step that settles a parcel has several rows, because the step may fail after it
+/// has settled a part of the parcel. The test does not observe the source's log and backups, because the test may
+/// repeat the steps that store a log entry or back up the source.
 static BEFORE: &[(
     u64,
     u64,
