@@ -1,5 +1,5 @@
--- Runs of the program `couch_lines` with any reader and any writer, as specified in docs/PROFILE.md, "CouchDB's
--- answers".
+-- Defines the runs of the program `couch_lines` with any reader and any writer, as specified in docs/PROFILE.md,
+-- "CouchDB's answers".
 use Rattle.std.specs.Prelude.{◌≡◌, ◌⊎◌, ◌++◌, [], ℕ, List, OnOk, Bool, true, false, Option, Some, Result, Ok, Err, String, string_bytes, option_map, ⊤}
 use Rattle.std.specs.declared.alloc.Global.{Global}
 use Rattle.response_parser.specs.Reading.{Piece}
@@ -54,7 +54,7 @@ abbrev pub form_of : Bool → Form
 form_of true = Svg
 form_of false = Text
 
--- The given task of `couch_lines` was run with the given result. The bytes `left` remained in the reader before the
+-- A run of the task `task` of `couch_lines` had the result `result`. The bytes `left` remained in the reader before the
 -- run. The writer had accepted the bytes `held` before the run, and `held'` after the run.
 abbrev pub IsDone : Task → Option (List ℕ) → Option (List ℕ) → Option (List ℕ) → Result ℕ AnswerFault → Type 0
 IsDone task left held held' result = Converts result (wanted_of task) (words_of_task task) left held held'
@@ -90,8 +90,8 @@ RunsWords words left left' held held' (Drawn ended) =
     × PicturedBy ended (form_of svg) (option_map string_bytes db) left held held'
 
 -- A device (the reader or the writer) failed in a run exactly if the run's error names the device. As an exception, the
--- error `Read` may also mean that the maximum number of reads was reached. The arguments of `RunCounts` are the numbers
--- of reads, of the reader's failures, and of the writer's failures, each before and after the run.
+-- error `Read` may also mean that the maximum number of reads was reached. Besides the result, `RunCounts` takes three
+-- numbers, each before and after the run: the numbers of reads, of the reader's failures, and of the writer's failures.
 abbrev pub RunCounts : Result ℕ AnswerFault → ℕ → ℕ → ℕ → ℕ → ℕ → ℕ → Type 0
 RunCounts (Ok passed) reads reads' reader reader' writer writer' = (reader' ≡ reader) × (writer' ≡ writer)
 RunCounts (Err fault) reads reads' reader reader' writer writer' = CountsOf fault reads reads' reader reader' writer writer'
