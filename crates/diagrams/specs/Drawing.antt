@@ -1,4 +1,4 @@
--- The pictures of a script's output, as specified in docs/PROFILE.md, "Pictures".
+-- Defines the pictures of a script's output, as specified in docs/PROFILE.md, "Pictures".
 use Rattle.std.specs.Prelude.{◌≡◌, ℕ, ◌<◌, ◌≤◌, Bool, true, false, List, [], ◌∷◌, ◌++◌, Option, Some, None, Result, Ok, Err, IsPermutation, map, codes, option_map, String, string_bytes, Vec, vec_len, chars, ⊤}
 use Rattle.std.specs.declared.alloc.Global.{Global}
 use Rattle.std.specs.Borrow.{Bor}
@@ -146,8 +146,8 @@ pub record IsPictureOf (form : Form) (db : Option (List ℕ)) (input : List ℕ)
   pub parts : picture ≡ (head ++ text) ++ tail
   pub safe : (shows : List ℕ) → IsSafe form (shown form (chars shows))
 
--- The call wrote a picture of the input, which is all remaining bytes of the reader (`left`). The writer had accepted
--- the bytes `held` before the call, and the bytes `held'` after the call.
+-- The call wrote a picture of its input, which consists of all remaining bytes of the reader (`left`). The writer had
+-- accepted the bytes `held` before the call, and the bytes `held'` after the call.
 pub record IsPictured (form : Form) (db : Option (List ℕ)) (clean : Bool) (left held held' : Option (List ℕ)) : Type 0 where
   pub input : List ℕ
   pub gives : Gives left input
@@ -167,8 +167,8 @@ IsDrawnUntil Write form db input text = ⊤
 IsDrawnUntil Memory form db input text = BeginsPicture (AnswersFirst Pictures (first_sketch form db) input) text
 IsDrawnUntil Cut form db input text = BeginsPicture (AnswersCut Pictures (first_sketch form db) input) text
 
--- The call failed, and has written a prefix of a picture of the input, which is all remaining bytes of the reader
--- (`left`). The writer had accepted the bytes `held` before the call, and the bytes `held'` after the call.
+-- The call failed, and has written a prefix of a picture of its input, which consists of all remaining bytes of the
+-- reader (`left`). The writer had accepted the bytes `held` before the call, and the bytes `held'` after the call.
 pub record IsPicturedUntil (fault : ScriptFault) (form : Form) (db : Option (List ℕ)) (left held held' : Option (List ℕ)) : Type 0 where
   pub input : List ℕ
   pub gives : Gives left input
