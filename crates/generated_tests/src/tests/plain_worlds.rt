@@ -342,8 +342,8 @@ impl Sessions {
         held.done.found = held.done.found.saturating_add(count(&asked.leaves));
     }
 
-    /// Records a session. If `concludes` is true, the call records the session only if the low water is the goal.
-    /// Returns the session's log entry.
+    /// Records a session. If `concludes` is true, the call records the session only if the low water (the sequence up
+    /// to which all windows are done) is the session's goal. Returns the session's log entry.
     fn record(&mut self, session: u128, concludes: bool, time: u64) -> Option<Done> {
         let low = self.low_water(self.get(session)?);
         let place = self.place(session)?;
