@@ -30,7 +30,7 @@ knows_at rev start (name ∷ names) = bytes_eq rev (rev_at start name) || knows_
 abbrev pub knows_rev : LeafView → List ℕ → Bool
 knows_rev leaf rev = bytes_eq rev leaf.0 || knows_at rev leaf.1 leaf.2
 
--- The head of a document: its id, its revision with the ancestry, and whether it is deleted.
+-- The head of a document: the document's id, its revision with the ancestry, and whether the document is deleted.
 abbrev pub HeadView : Type 0
 HeadView = List ℕ × LeafView × Bool
 

@@ -1,4 +1,4 @@
--- Lines that list the leaves of a document, as specified in docs/PROFILE.md, "Journals".
+-- Defines the lines that list the leaves of a document, as specified in docs/PROFILE.md, "Journals".
 use Rattle.std.specs.Prelude.{ℕ, if◌then◌else◌, List, [], ◌∷◌, ◌++◌, Option, None, Some, String, string_bytes, option_and_then, map, flat_map, codes}
 use Rattle.std.specs.Global.{Global}
 use Rattle.json.specs.Json.{Json, Items, no_items, item, null, boolean, number, string, array, object, document}
