@@ -1,4 +1,4 @@
--- The output for a response of `_bulk_docs`.
+-- Defines the output for a response of `_bulk_docs`.
 use Rattle.std.specs.Prelude.{ℕ, Bool, false, ◌||◌, if◌then◌else◌, List, [], ◌++◌, Option, codes, is_some}
 use Rattle.json.specs.Json.{Json, Items, no_items, item}
 use Rattle.json.specs.Find.{get}
