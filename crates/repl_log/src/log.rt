@@ -14,8 +14,8 @@ pub struct Log {
     entries: IndexMap<SessionId, Entry>,
 }
 
-// This type has no `#[derive(Drop)]`, because each crate that owns such a value would have to prove the derived code
-// (docs/DECISIONS.md, "Letting values go").
+// This type has no `#[derive(Drop)]`, because each crate that owns a value of the type would have to prove the derived
+// code (docs/DECISIONS.md, "Letting values go").
 impl Drop for Log {
     fn drop(self) {
         let Log { entries: _ } = self;
