@@ -97,7 +97,7 @@ fn of_document(
     ))
 }
 
-/// Returns the number of leaves in conflict, and the number of documents of all leaves.
+/// Returns the number of leaves in conflict, and the number of documents that were read for all leaves.
 fn of_leaves(alloc: Global, database: &Database, id: &DocId) -> Option<(usize, usize)> {
     let Some(tree) = database.tree(id) else {
         return None;
