@@ -65,8 +65,8 @@ pub fn rows_of(
     Ok(rows)
 }
 
-/// Returns the last row in which a revision of a given generation is drawn. The call drops the rows after the returned
-/// row from `branches`, because later leaves never branch off a dropped row.
+/// Returns the last row in which a revision of a given generation is drawn. The call removes the rows after the
+/// returned row from `branches`, because later leaves never branch off a removed row.
 fn parent_of(branches: &mut Vec<Branch>, hang: u32) -> usize {
     for _ in 0..branches.len() {
         match branches.last() {
