@@ -12,7 +12,8 @@ use itoa::Buffer;
 use json::{Scratch, Value};
 use std::alloc::{AllocError, Global};
 
-/// The head of a document, which is its id, its revision, the revision's ancestry, and whether it is deleted.
+/// The head of a document, which consists of the document's id, revision and known ancestry, and of whether the
+/// document is deleted.
 #[derive(Drop)]
 pub struct Leaf {
     /// The id of the document.
