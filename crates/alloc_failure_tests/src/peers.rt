@@ -175,7 +175,7 @@ fn counted(peer: &Peer<Rules>) -> Option<(u64, u64)> {
     Some((entry.counts.read, entry.counts.checked))
 }
 
-/// Settles a parcel, and retries if an allocation fails.
+/// Settles a parcel of fetched documents, and retries if an allocation fails.
 fn settle(
     alloc: Global,
     peer: &mut Peer<Rules>,

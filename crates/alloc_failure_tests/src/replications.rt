@@ -6,7 +6,7 @@ use repl_target::{Audit, Cause, Peer, Plan, Report, Rules, TargetFault, audit, r
 use rev_tree::SessionId;
 use std::alloc::Global;
 
-/// Creates the plan of a session with windows of one row.
+/// Creates the plan of a session with windows (ranges of the source's changes) of one row each.
 pub(crate) fn plan(session: u128, at: Moment) -> Plan {
     Plan {
         session: SessionId(session),
