@@ -1,4 +1,4 @@
-//! Assembling documents from lines.
+//! Assembles documents from the lines of a script's output.
 ghost use Rattle.std.specs.Prelude.{◌≡◌, [], Some, None, true, IfOk, IfSome, IfNone, string_bytes};
 ghost use Rattle.rev_core.specs.Ancestry.{head_of};
 ghost use Rattle.output_parser.specs.declared.told.Told.TheVariants as lines;
