@@ -1,7 +1,7 @@
 //! Tests of networks whose peers are edited at random. After a replication through a hub, or two rounds of replications
 //! along a ring of peers, all peers must have the same documents. A repetition of the replication must change no peer,
-//! and audits must find no uncovered leaf. After replications along random hops, the last peer of each chain of hops
-//! must have all earlier leaves of the chain's first peer.
+//! and audits must find no uncovered leaf. After replications along random hops (each from one peer to another), the
+//! last peer of each chain of hops must have all earlier leaves of the chain's first peer.
 use crate::tests::checks::holds;
 use crate::tests::feeds::id;
 use crate::tests::merges::below;
@@ -94,7 +94,7 @@ fn ring(rt: &impl Abort, alloc: Global, rng: &mut ChaCha8Rng, sessions: &mut u12
     hops
 }
 
-/// Returns random hops between the peers.
+/// Returns random hops (replications from one peer to another) between the peers.
 fn hops(rt: &impl Abort, alloc: Global, rng: &mut ChaCha8Rng, sessions: &mut u128) -> Vec<Hop> {
     let mut hops = Vec::new(alloc);
     for _ in 0..8 + below(rng, 32) {

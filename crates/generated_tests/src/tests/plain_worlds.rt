@@ -12,7 +12,8 @@ use std::process::Abort;
 /// generation g has the index 3 (g - 1).
 pub(crate) const EDITED: usize = 4;
 
-/// A window, or a request for leaves of a window: the life of the source, the bounds, and the leaves.
+/// A window, or a request for leaves of a window: the life (incarnation) of the source's database, the bounds, and the
+/// leaves.
 #[derive(Clone, Copy)]
 pub(crate) struct Rows {
     life: u64,
@@ -72,11 +73,13 @@ struct Copied {
 pub(crate) struct Met {
     /// The number of restores while windows, entries or logs were in transit.
     pub(crate) restores: u64,
-    /// The number of sessions that began from a log of an earlier life of the source.
+    /// The number of sessions that began from a log of an earlier life (incarnation) of the source's database.
     pub(crate) begins: u64,
-    /// The number of windows that a session did not store because the window's life differs from the session's life.
+    /// The number of windows that a session did not store because the window's life (the source's incarnation) differs
+    /// from the session's life.
     pub(crate) windows: u64,
-    /// The number of entries that the source did not store because the entry's life differs from the source's life.
+    /// The number of entries that the source did not store because the entry's life (the source's incarnation) differs
+    /// from the source's life.
     pub(crate) entries: u64,
 }
 
@@ -140,8 +143,8 @@ fn count(masks: &Masks) -> u64 {
     all
 }
 
-/// Returns a page of a source's feed, with the given life of the source. The call scans at most `limit` rows above
-/// `since` and at or below `goal`. The page has those of the scanned rows that are selected.
+/// Returns a page of a source's feed, marked with the given life (incarnation) of the source's database. The call scans
+/// at most `limit` rows above `since` and at or below `goal`. The page has those of the scanned rows that are selected.
 fn page(side: &PlainSide, life: u64, since: u64, goal: u64, limit: u64, picked: Picked) -> Rows {
     let mut leaves = [0; IDS];
     let mut hi = since;
@@ -163,7 +166,7 @@ fn page(side: &PlainSide, life: u64, since: u64, goal: u64, limit: u64, picked: 
     }
 }
 
-/// Returns those leaves of the given rows that a side lacks.
+/// Returns those leaves of the given rows that a side (the plain model of a peer) lacks.
 fn missing(side: &PlainSide, rows: &Rows) -> Rows {
     let mut leaves = [0; IDS];
     for number in 0..IDS {
@@ -172,7 +175,7 @@ fn missing(side: &PlainSide, rows: &Rows) -> Rows {
     Rows { leaves, ..*rows }
 }
 
-/// Whether a side covers each leaf of the given rows.
+/// Whether a side (the plain model of a peer) covers each leaf of the given rows.
 fn covers(side: &PlainSide, rows: &Rows) -> bool {
     let mut covers = true;
     for number in 0..IDS {
@@ -307,7 +310,7 @@ impl Sessions {
         })
     }
 
-    /// Counts a document of a session as refused if `row` is a ledger row, and otherwise as written.
+    /// Counts a document of a session as refused if the argument `row` has a ledger row, and otherwise as written.
     fn count(&mut self, rt: &impl Abort, session: u128, row: Option<Row>) {
         let place = self.place(session).unwrap_or(0);
         let held = self.begun.get_mut(place).expect(rt, "a session");
@@ -320,7 +323,7 @@ impl Sessions {
         }
     }
 
-    /// Whether a side covers each leaf of the window at an index.
+    /// Whether a side (the plain model of a peer) covers each leaf of the window at an index.
     fn is_covered(&self, rt: &impl Abort, window: usize, side: &PlainSide) -> bool {
         covers(side, &self.windows.get(window).expect(rt, "a window").rows)
     }
@@ -483,7 +486,7 @@ impl PlainWorld {
         self.copies.len()
     }
 
-    /// Returns the source side if `is_source` is true, otherwise the target side.
+    /// Returns the plain model of the source if `is_source` is true, otherwise the plain model of the target.
     pub(crate) fn side(&mut self, is_source: bool) -> &mut PlainSide {
         if is_source {
             &mut self.source
@@ -629,8 +632,8 @@ impl PlainWorld {
         }
     }
 
-    /// Stores an entry in the source's log, if the entry has the source's life. If the log has an entry of the same
-    /// session with a greater recorded sequence, the call changes nothing.
+    /// Stores an entry in the source's log, if the entry has the source's current life (incarnation). If the log has an
+    /// entry of the same session with a greater recorded sequence, the call changes nothing.
     pub(crate) fn put_entry(&mut self, rt: &impl Abort, entry: usize) {
         if let Some(entry) = self.entries.get(entry) {
             if entry.life == self.log.life {
