@@ -20,7 +20,7 @@ abbrev pub keys_or_none : {S : Type 0} → Option (IndexSet (String Global) S) �
 keys_or_none None = []
 keys_or_none (Some revs) = revs.keys
 
--- A list of revisions after adding revision `rev`, or the unchanged list if it already has this revision.
+-- A list of revisions after adding revision `rev`, or the unchanged list if the list already has this revision.
 abbrev pub add_rev : List (List ℕ) → List ℕ → List (List ℕ)
 add_rev revs rev = if list_any (bytes_eq rev) revs then revs else revs ++ rev ∷ []
 

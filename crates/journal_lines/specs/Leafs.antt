@@ -1,4 +1,4 @@
--- The heads of documents.
+-- Defines the heads of documents.
 use Rattle.std.specs.Prelude.{ℕ, Bool, false, ◌||◌, ◌-◌, List, [], ◌∷◌, ◌++◌, Option, None, Some, option_map, option_and_then, unwrap_or, bytes_eq, codes, decimal, String, string_bytes, Vec}
 use Rattle.std.specs.Global.{Global}
 use Rattle.json.specs.Json.{Json, document}
