@@ -108,8 +108,8 @@ fn hops(rt: &impl Abort, alloc: Global, rng: &mut ChaCha8Rng, sessions: &mut u12
     hops
 }
 
-/// Returns a mask for each peer. The mask has a bit for this peer, and for each peer that a chain of hops reaches from
-/// this peer.
+/// Returns a mask for each peer. A peer's mask has a bit for the peer itself, and for each peer to which a chain of
+/// hops leads from this peer.
 ///
 /// The function processes each hop once for each peer, instead of enumerating all chains of hops.
 fn reached(hops: &[Hop]) -> [u32; PEERS] {

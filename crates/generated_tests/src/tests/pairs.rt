@@ -20,8 +20,8 @@ use std::process::Abort;
 use std::sync::Wait;
 use std::thread::Threads;
 
-/// A random number below this bound determines which document the target refuses. If the random number is `IDS` or
-/// more, the target refuses no document.
+/// A random number below `CHOICES` determines which document the target refuses. If the random number is `IDS` or more,
+/// the target refuses no document.
 const CHOICES: u32 = 8;
 
 /// The indices in `Bench::picked` of all documents, the first selection and the second selection.

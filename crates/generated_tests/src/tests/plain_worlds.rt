@@ -36,7 +36,7 @@ pub(crate) struct Done {
     pub(crate) life: u64,
     pub(crate) start: u64,
     pub(crate) recorded: u64,
-    /// The times at which the session began and last recorded, in seconds since 1970.
+    /// The times at which the session began and last recorded its progress, in seconds since 1970.
     pub(crate) moments: (u64, u64),
     pub(crate) checked: u64,
     pub(crate) found: u64,
@@ -250,7 +250,7 @@ impl Sessions {
     }
 
     /// Returns the common checkpoint of a source's log and the target's sessions. The common checkpoint is the lesser
-    /// of both recorded sequences of the newest common session, or 0 if no session is common.
+    /// of the two recorded sequences of the newest session that both have, or 0 if they have no common session.
     fn agreed(&self, entries: &[Done]) -> u64 {
         for held in self.begun.iter().rev() {
             if let Some(place) = place_in(entries, held.done.session) {
@@ -587,7 +587,7 @@ impl PlainWorld {
         }
     }
 
-    /// Stores a window of the message bag in a session.
+    /// Stores a window from the message bag (the messages in transit) in a session.
     pub(crate) fn append(&mut self, rt: &impl Abort, session: u128, window: usize) {
         if let Some(rows) = self.windows.get(window) {
             self.sessions.append(rt, session, *rows);
@@ -625,7 +625,7 @@ impl PlainWorld {
         }
     }
 
-    /// Records or concludes a session, and puts the session's entry into the message bag.
+    /// Records or concludes a session, and puts the session's entry into the message bag (the messages in transit).
     pub(crate) fn record(&mut self, rt: &impl Abort, session: u128, concludes: bool, time: u64) {
         if let Some(done) = self.sessions.record(session, concludes, time) {
             self.entries.push(done).expect(rt, "memory");
