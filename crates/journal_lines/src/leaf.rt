@@ -145,7 +145,7 @@ fn head_at(alloc: Global, value: &Value<'_>) -> Result<Option<Leaf>, AllocError>
     }
 }
 
-/// Returns the head of the document that a line has, if the line is a JSON object with a document.
+/// Returns the head of the document in a line, if the line is a JSON object with a document in the member `doc`.
 pub(crate) fn leaf_of(
     alloc: Global,
     scratch: &mut Scratch,
