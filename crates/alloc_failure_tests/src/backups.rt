@@ -1,4 +1,5 @@
-//! `Peer::backup` and `restore`. Tests that a backup or restore whose allocation fails leaves the peer unchanged.
+//! Calls `Peer::backup` and `restore`, and tests that a backup or restore whose allocation fails leaves the peer
+//! unchanged.
 use crate::peers::load;
 use anyhow::{Result, bail};
 use repl_log::{Moment, RepId};

@@ -1,4 +1,4 @@
-//! `Front::append`, `reserve` and `finish`.
+//! Calls `Front::append`, `reserve` and `finish`.
 use anyhow::{Result, bail};
 use range_front::{Front, FrontFault};
 use std::alloc::{AllocError, Global};

@@ -1,4 +1,5 @@
-//! `replicate_alone`. After a failed allocation, an audit finds no uncovered leaf, and another replication succeeds.
+//! Calls `replicate_alone`. After a failed allocation, an audit finds no uncovered leaf, and another replication
+//! succeeds.
 use crate::peers::load;
 use anyhow::{Result, bail};
 use repl_log::Moment;
@@ -98,8 +99,8 @@ fn ended(
     Some((report.recorded, target.db().update_seq(), clean))
 }
 
-/// Replicates into a target. The function is separate from its caller, because each further variable of a function that
-/// owns a peer lengthens the proof.
+/// Replicates a source into a new target. The function is separate from its caller, because each further variable of a
+/// function that owns a peer lengthens the proof.
 fn into_target(alloc: Global, source: &mut Peer<Rules>) -> Option<(u64, u64, bool)> {
     let mut target = Peer::new(alloc, 2, Rules { deny: None });
     ended(alloc, source, &mut target)

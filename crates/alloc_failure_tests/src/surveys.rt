@@ -108,7 +108,7 @@ fn of_leaves(alloc: Global, database: &Database, id: &DocId) -> Option<(usize, u
     Some((in_conflict(alloc, tree)?, documents(alloc, database, id)?))
 }
 
-/// Asks all questions.
+/// Performs all queries about a source and a target, and returns whether the results are as expected.
 fn asked(alloc: Global, source: &Peer<Rules>, target: &Peer<Rules>) -> Option<bool> {
     let Some(id) = doc_id(alloc, "d") else {
         return None;

@@ -1,6 +1,6 @@
-//! `World::run`. If an allocation fails in a step of `World::run`, the world is in the state before this step, or the
-//! step has settled a part of a parcel. After a failed step, the test takes the remaining steps. The final result is
-//! the same as after a run without a failed allocation.
+//! Calls `World::run`. If an allocation fails in a step of `World::run`, the world is in the state before this step, or
+//! the step has settled a part of a parcel. After a failed step, the test takes the remaining steps. The final result
+//! is the same as after a run without a failed allocation.
 use crate::peers::{body, doc, doc_id};
 use anyhow::{Result, bail};
 use repl_log::Moment;
@@ -226,8 +226,8 @@ fn is_clean(alloc: Global, world: &World<Rules>) -> bool {
     }
 }
 
-/// Returns the session's recorded sequence, the values observed at the end, and whether an audit finds no uncovered
-/// leaf.
+/// Takes all steps, and returns the session's recorded sequence, the values observed after the last step, and whether
+/// an audit finds no uncovered leaf.
 fn ended(alloc: Global, world: &mut World<Rules>) -> Option<(u64, Seen, bool)> {
     let all = match steps(alloc) {
         Some(all) => Some(all),
