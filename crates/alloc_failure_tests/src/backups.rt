@@ -1,4 +1,5 @@
-//! `Peer::backup` and `restore`. Tests that a backup or restore whose allocation fails leaves the peer unchanged.
+//! Calls `Peer::backup` and `restore`, and tests that a backup or restore whose allocation fails leaves the peer
+//! unchanged.
 use crate::peers::load;
 use anyhow::{Result, bail};
 use repl_log::{Moment, RepId};
@@ -14,8 +15,8 @@ const REP: RepId = RepId {
     chosen: None,
 };
 
-/// The observed values of a peer: its database's life and update sequence, and the numbers of its local writes and log
-/// entries.
+/// The observed values of a peer: the life (incarnation) and update sequence of its database, and the numbers of its
+/// local writes and log entries.
 type Seen = (u64, u64, usize, usize);
 
 /// Returns the number of entries in the log of the replication.

@@ -64,7 +64,7 @@ fn page(alloc: Global, source: &Peer<Rules>, chosen: &Chosen) -> Option<Window> 
     }
 }
 
-/// Whether an audit of the selected documents is clean.
+/// Whether an audit of the selected documents finds no uncovered leaf.
 fn is_clean(
     alloc: Global,
     source: &Peer<Rules>,
@@ -177,8 +177,8 @@ fn ended(alloc: Global, source: &mut Peer<Rules>, target: &mut Peer<Rules>) -> O
     ))
 }
 
-/// Replicates into a target. The function is separate from its caller, because each further variable of a function that
-/// owns a peer lengthens the proof.
+/// Replicates selected documents of a source into a new target. The function is separate from its caller, because each
+/// further variable of a function that owns a peer lengthens the proof.
 fn into_target(alloc: Global, source: &mut Peer<Rules>) -> Option<Seen> {
     let mut target = Peer::new(alloc, 2, Rules { deny: None });
     ended(alloc, source, &mut target)

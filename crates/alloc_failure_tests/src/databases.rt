@@ -172,7 +172,8 @@ fn grow(alloc: Global, db: &mut Database) -> Result<()> {
     edit_id(alloc, db, "d", &body, false)
 }
 
-/// Returns the number of fetched documents and the number of gone revisions.
+/// Returns the number of fetched documents and the number of gone revisions (requested revisions that the database
+/// lacks).
 fn fetched(alloc: Global, db: &Database, asked: &Asked) -> Result<(usize, usize)> {
     let parcel = opened(alloc, db, asked)?;
     Ok((parcel.docs().len(), parcel.gone().len()))
@@ -228,8 +229,8 @@ struct Counts {
     arrived: u64,
 }
 
-/// Requests the leaves of a window that an empty database lacks. Fetches the requested leaves from both databases, and
-/// puts the documents that the first database returned into a new database.
+/// Requests the leaves of a window that an empty database lacks. Fetches the requested leaves from the database `db`
+/// and from the empty database, and puts the documents that `db` returned into a new database.
 fn counted(alloc: Global, db: &Database, empty: &Database, window: &Window) -> Result<Counts> {
     let asked = asked(alloc, empty, window)?;
     let (count, _) = fetched(alloc, db, &asked)?;
@@ -251,7 +252,7 @@ fn exchanged(alloc: Global, db: &Database, empty: &Database) -> Result<Counts> {
     counted(alloc, db, empty, &window)
 }
 
-/// Copies a database, and gives the copy the life 1.
+/// Copies a database, and gives the copy the life 1 (a database's life is a number that a restore of a backup changes).
 fn db_copied(alloc: Global, db: &Database) -> Result<Database> {
     match db.copy_in(alloc, 1) {
         Err(AllocError) => Ok(db.copy_in(alloc, 1)?),

@@ -1,4 +1,4 @@
-//! `Front::append`, `reserve` and `finish`.
+//! Calls `Front::append`, `reserve` and `finish`.
 use anyhow::{Result, bail};
 use range_front::{Front, FrontFault};
 use std::alloc::{AllocError, Global};
@@ -39,7 +39,8 @@ fn finishes(front: &mut Front, lo: u64) -> bool {
 /// The start sequences of the windows in the order in which the test finishes them.
 static BEGINNINGS: &[u64] = &[2, 6, 0, 4];
 
-/// Returns the low water after finishing the windows, if all windows could be finished.
+/// Returns the low water (the sequence up to which all windows are done) after finishing the windows, if all windows
+/// could be finished.
 fn ended(alloc: Global) -> Option<u64> {
     let mut front = Front::new(alloc, 0);
     let mut well = grows(&mut front);

@@ -1,6 +1,6 @@
-//! Calls on a network. If an allocation fails in `add`, `load` or `edit`, the network is unchanged. After any failed
-//! allocation, audits find no uncovered leaf. If a hop fails, the test repeats the hops with other session ids. The
-//! repeated hops have the same result as hops without a failed allocation.
+//! Calls functions of a network. If an allocation fails in `add`, `load` or `edit`, the network is unchanged. After any
+//! failed allocation, audits find no uncovered leaf. If a hop (a replication between two peers) fails, the test repeats
+//! the hops with other session ids. The repeated hops have the same result as hops without a failed allocation.
 use crate::peers::{body, doc, doc_id};
 use crate::replications::{is_memory, is_nothing, plan};
 use anyhow::{Result, bail};
@@ -71,7 +71,7 @@ fn edit(alloc: Global, net: &mut Net<Rules>, place: usize, id: &str) -> Option<(
     Some(())
 }
 
-/// Audits two peers, and retries if an allocation fails. Returns whether the audit is clean.
+/// Audits two peers, and retries if an allocation fails. Returns whether the audit finds no uncovered leaf.
 fn is_clean(alloc: Global, net: &Net<Rules>, source: usize, target: usize) -> bool {
     let found = match net.audit(alloc, source, target, None) {
         Ok(found) => Some(found),

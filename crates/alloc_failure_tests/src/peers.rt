@@ -123,8 +123,8 @@ fn opened(alloc: Global, peer: &Peer<Rules>, asked: &Asked) -> Option<Parcel> {
     }
 }
 
-/// Returns the parameters of a session that begins at sequence 0, and should end at sequence `goal` of the source's
-/// life 0.
+/// Returns the parameters of a session that begins at sequence 0, and should end at sequence `goal` of the source,
+/// whose database has the life 0.
 fn beginning(goal: u64) -> Beginning {
     let scope = Scope {
         rep: REP,
@@ -175,7 +175,7 @@ fn counted(peer: &Peer<Rules>) -> Option<(u64, u64)> {
     Some((entry.counts.read, entry.counts.checked))
 }
 
-/// Settles a parcel, and retries if an allocation fails.
+/// Settles a parcel of fetched documents, and retries if an allocation fails.
 fn settle(
     alloc: Global,
     peer: &mut Peer<Rules>,
@@ -272,7 +272,8 @@ fn tell(rt: &impl Print, settled: Settled, report: Report, sequence: u64) -> Res
 }
 
 /// Runs the session, and returns the numbers of settled documents, the report, and the target's update sequence. Before
-/// the session, the target has a tree that contradicts a tree of the source.
+/// the session, the target has a tree that contradicts a tree of the source: a revision has different parents in the
+/// two trees.
 fn session(
     alloc: Global,
     source: &mut Peer<Rules>,

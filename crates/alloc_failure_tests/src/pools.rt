@@ -127,8 +127,8 @@ fn ended<G: Gate + Sync, R: Threads + Wait + Sync>(
     Some((report.recorded, target.db().update_seq(), clean))
 }
 
-/// Runs into a target. The function is separate from its caller, because each further variable of a function that owns
-/// a peer lengthens the proof.
+/// Replicates a source into a new target with the pool. The function is separate from its caller, because each further
+/// variable of a function that owns a peer lengthens the proof.
 fn into_target<G: Gate + Sync, R: Threads + Wait + Sync>(
     rt: &R,
     alloc: Global,

@@ -1,4 +1,5 @@
-//! `replicate_alone`. After a failed allocation, an audit finds no uncovered leaf, and another replication succeeds.
+//! Calls `replicate_alone`. After a failed allocation, an audit finds no uncovered leaf, and another replication
+//! succeeds.
 use crate::peers::load;
 use anyhow::{Result, bail};
 use repl_log::Moment;
@@ -6,7 +7,7 @@ use repl_target::{Audit, Cause, Peer, Plan, Report, Rules, TargetFault, audit, r
 use rev_tree::SessionId;
 use std::alloc::Global;
 
-/// Creates the plan of a session with windows of one row.
+/// Creates the plan of a session with windows (ranges of the source's changes) of one row each.
 pub(crate) fn plan(session: u128, at: Moment) -> Plan {
     Plan {
         session: SessionId(session),
@@ -27,7 +28,7 @@ pub(crate) fn is_memory(fault: TargetFault) -> bool {
     }
 }
 
-/// Audits two peers, and retries if an allocation fails. Returns whether the audit is clean.
+/// Audits two peers, and retries if an allocation fails. Returns whether the audit finds no uncovered leaf.
 pub(crate) fn is_clean(alloc: Global, source: &Peer<Rules>, target: &Peer<Rules>) -> bool {
     let found = match audit(alloc, source, target, None).ok() {
         Some(found) => Some(found),
@@ -98,8 +99,8 @@ fn ended(
     Some((report.recorded, target.db().update_seq(), clean))
 }
 
-/// Replicates into a target. The function is separate from its caller, because each further variable of a function that
-/// owns a peer lengthens the proof.
+/// Replicates a source into a new target. The function is separate from its caller, because each further variable of a
+/// function that owns a peer lengthens the proof.
 fn into_target(alloc: Global, source: &mut Peer<Rules>) -> Option<(u64, u64, bool)> {
     let mut target = Peer::new(alloc, 2, Rules { deny: None });
     ended(alloc, source, &mut target)

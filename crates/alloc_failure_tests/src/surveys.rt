@@ -11,7 +11,8 @@ use repl_target::{Peer, Rules};
 use rev_tree::Tree;
 use std::alloc::{AllocError, Global};
 
-/// Two leaves of a document. The target has one of the two leaves, and contradicts the ancestry of the other leaf.
+/// Two leaves of a document. The target has one of the two leaves, and has a different parent for a revision in the
+/// ancestry of the other leaf.
 const SOURCE: [&str; 2] = [
     r#"{"_id":"d","_revisions":{"start":3,"ids":["d","b","a"]}}"#,
     r#"{"_id":"d","_revisions":{"start":2,"ids":["c","a"]}}"#,
@@ -96,7 +97,7 @@ fn of_document(
     ))
 }
 
-/// Returns the number of leaves in conflict, and the number of documents of all leaves.
+/// Returns the number of leaves in conflict, and the number of documents that were read for all leaves.
 fn of_leaves(alloc: Global, database: &Database, id: &DocId) -> Option<(usize, usize)> {
     let Some(tree) = database.tree(id) else {
         return None;
@@ -107,7 +108,7 @@ fn of_leaves(alloc: Global, database: &Database, id: &DocId) -> Option<(usize, u
     Some((in_conflict(alloc, tree)?, documents(alloc, database, id)?))
 }
 
-/// Asks all questions.
+/// Performs all queries about a source and a target, and returns whether the results are as expected.
 fn asked(alloc: Global, source: &Peer<Rules>, target: &Peer<Rules>) -> Option<bool> {
     let Some(id) = doc_id(alloc, "d") else {
         return None;

@@ -75,7 +75,7 @@ fn of_sigs(alloc: Global, start: u32, sigs: &[Sig]) -> Option<Ancestry> {
     }
 }
 
-/// Returns the ancestry 4-d, 3-x, which does not give the parent of 3-x.
+/// Returns the ancestry 4-d, 3-x, which does not contain a parent of 3-x.
 fn other(alloc: Global) -> Option<Ancestry> {
     match (Sig::parse(b"d"), Sig::parse(b"x")) {
         (Ok(d), Ok(x)) => of_sigs(alloc, 4, &[d, x]),

@@ -1,6 +1,6 @@
-//! `World::run`. If an allocation fails in a step, the world is in the state before this step, or the step has settled
-//! a part of a parcel. After a failed step, the test takes the remaining steps. The final result is the same as after a
-//! run without a failed allocation.
+//! Calls `World::run`. If an allocation fails in a step of `World::run`, the world is in the state before this step, or
+//! the step has settled a part of a parcel. After a failed step, the test takes the remaining steps. The final result
+//! is the same as after a run without a failed allocation.
 use crate::peers::{body, doc, doc_id};
 use anyhow::{Result, bail};
 use repl_log::Moment;
@@ -13,11 +13,12 @@ use std::alloc::Global;
 /// The only session.
 const SESSION: SessionId = SessionId(1);
 
-/// The observed values of a session: the number of its windows, its low water, and its recorded sequence.
+/// The observed values of a session: the number of its windows, its low water (the sequence up to which all windows are
+/// done), and its recorded sequence.
 type Session = (usize, u64, u64);
 
-/// The observed values of a world: the source's life, the peers' update sequences, the session if it has begun, and the
-/// numbers of messages that were sent (`World::bag_sizes`).
+/// The observed values of a world: the source's life (incarnation), the peers' update sequences, the session if it has
+/// begun, and the numbers of messages that were sent (`World::bag_sizes`).
 #[derive(Clone, Copy, PartialEq, Eq)]
 struct Seen {
     life: u64,
@@ -27,10 +28,10 @@ struct Seen {
     sizes: (usize, usize, usize, usize, usize),
 }
 
-/// Each row has values that the test may observe after a step has failed, and the index of the step with which the test
-/// then continues. The step that settles a parcel has several rows, because the step may fail after it has settled a
-/// part of the parcel. The test does not observe the source's log and backups, because it may repeat the steps that
-/// store a log entry or back up the source.
+/// Each row of the table has values that the test may observe after a step has failed, and the index of the step with
+/// which the test then continues. The step that settles a parcel has several rows, because the step may fail after it
+/// has settled a part of the parcel. The test does not observe the source's log and backups, because the test may
+/// repeat the steps that store a log entry or back up the source.
 static BEFORE: &[(
     u64,
     u64,
@@ -213,7 +214,7 @@ fn take(alloc: Global, world: &mut World<Rules>, steps: &[Step]) -> Option<()> {
     world.run(alloc, steps.get(place..)?).ok()
 }
 
-/// Audits two peers, and retries if an allocation fails. Returns whether the audit is clean.
+/// Audits two peers, and retries if an allocation fails. Returns whether the audit finds no uncovered leaf.
 fn is_clean(alloc: Global, world: &World<Rules>) -> bool {
     let found = match audit(alloc, world.source(), world.target(), None).ok() {
         Some(found) => Some(found),
@@ -225,8 +226,8 @@ fn is_clean(alloc: Global, world: &World<Rules>) -> bool {
     }
 }
 
-/// Returns the session's recorded sequence, the values observed at the end, and whether an audit finds no uncovered
-/// leaf.
+/// Takes all steps, and returns the session's recorded sequence, the values observed after the last step, and whether
+/// an audit finds no uncovered leaf.
 fn ended(alloc: Global, world: &mut World<Rules>) -> Option<(u64, Seen, bool)> {
     let all = match steps(alloc) {
         Some(all) => Some(all),

@@ -1,5 +1,5 @@
--- Runs of the program `couch_lines` with any reader and any writer, as specified in docs/PROFILE.md, "CouchDB's
--- answers".
+-- Defines the runs of the program `couch_lines` with any reader and any writer, as specified in docs/PROFILE.md,
+-- "CouchDB's answers".
 use Rattle.std.specs.Prelude.{◌≡◌, ◌⊎◌, ◌++◌, [], ℕ, List, OnOk, Bool, true, false, Option, Some, Result, Ok, Err, String, string_bytes, option_map, ⊤}
 use Rattle.std.specs.declared.alloc.Global.{Global}
 use Rattle.response_parser.specs.Reading.{Piece}
@@ -24,7 +24,7 @@ use Rattle.couch_lines.specs.declared.tasks.Task.TheVariants.{Load, Ids, Diff, L
 use Rattle.couch_lines.specs.declared.run.Ended.{Ended}
 use Rattle.couch_lines.specs.declared.run.Ended.TheVariants.{NotRun, Ran, Drawn}
 
--- The kind of items that a task of `couch_lines` reads from its input.
+-- The kind of items, such as documents, that a task of `couch_lines` reads from its input.
 abbrev pub wanted_of : Task → Wanted
 wanted_of (Load db false) = Documents
 wanted_of (Load db true) = Enveloped
@@ -54,16 +54,17 @@ abbrev pub form_of : Bool → Form
 form_of true = Svg
 form_of false = Text
 
--- The given task of `couch_lines` was run with the given result. The bytes `left` remained in the reader before the
+-- A run of the task `task` of `couch_lines` had the result `result`. The bytes `left` remained in the reader before the
 -- run. The writer had accepted the bytes `held` before the run, and `held'` after the run.
 abbrev pub IsDone : Task → Option (List ℕ) → Option (List ℕ) → Option (List ℕ) → Result ℕ AnswerFault → Type 0
 IsDone task left held held' result = Converts result (wanted_of task) (words_of_task task) left held held'
 
--- The guarantees of a task if its input has the form that the task expects. A `load` task writes a `load` line for each
--- document in CouchDB responses, in order, with the document's text or envelope. The tasks `ids` and `diff` write each
--- leaf of a response into a request body. If the input is the output of a script, a task writes either the input's
--- documents into request bodies, or a `doc` line for each leaf in the input's changes. A task does not reject input of
--- the expected form. If a task returns an error, the writer may have only a part of the task's output (`ReadsAnswers`).
+-- What a task of `couch_lines` guarantees if the task's input has the form that the task expects. A `load` task writes
+-- a `load` line for each document in CouchDB responses, in order, with the document's text or envelope. The tasks `ids`
+-- and `diff` write each leaf of a response into a request body. If the input is the output of a script, a task writes
+-- either the input's documents into request bodies, or a `doc` line for each leaf in the input's changes. A task does
+-- not reject input of the expected form. If a task returns an error, the writer may have only a part of the task's
+-- output (`ReadsAnswers`).
 abbrev pub Makes : Task → Option (List ℕ) → Option (List ℕ) → Option (List ℕ) → Result ℕ AnswerFault → Type 0
 Makes (Load db whole) left held held' result = (answers : List ℕ) → (documents : List Piece) → left ≡ Some answers
     → IsAnswered (wanted_of (Load db whole)) answers documents → ReadsAnswers (loads_of (string_bytes db)) documents held held' result
@@ -77,9 +78,9 @@ Makes (Bulk n whole) left held held' result = (answers : List ℕ) → (document
     → IsScript (wanted_of (Bulk n whole)) answers documents → ReadsAnswers (bodies_of n) documents held held' result
 Makes (Trees db svg) left held held' result = ⊥
 
--- The effect of a run of `couch_lines` with the command line `words`. If the command line names no task, or an
--- allocation fails before the task starts, the run reads and writes no byte. A run starts only a task that the command
--- line names. Only the task `trees` draws a picture.
+-- What a run of `couch_lines` with the command line `words` reads and writes, depending on how the run ended. If the
+-- command line names no task, or an allocation fails before the task starts, the run reads and writes no byte. A run
+-- starts only a task that the command line names. Only the task `trees` draws a picture.
 abbrev pub RunsWords : List (List ℕ) → Option (List ℕ) → Option (List ℕ) → Option (List ℕ) → Option (List ℕ) → Ended → Type 0
 RunsWords words left left' held held' (NotRun why) = Refuses words why × (left' ≡ left) × (held' ≡ held)
 RunsWords words left left' held held' (Ran run) =
@@ -89,8 +90,8 @@ RunsWords words left left' held held' (Drawn ended) =
     × PicturedBy ended (form_of svg) (option_map string_bytes db) left held held'
 
 -- A device (the reader or the writer) failed in a run exactly if the run's error names the device. As an exception, the
--- error `Read` may also mean that the maximum number of reads was reached. The arguments of `RunCounts` are the numbers
--- of reads, of the reader's failures, and of the writer's failures, each before and after the run.
+-- error `Read` may also mean that the maximum number of reads was reached. Besides the result, `RunCounts` takes three
+-- numbers, each before and after the run: the numbers of reads, of the reader's failures, and of the writer's failures.
 abbrev pub RunCounts : Result ℕ AnswerFault → ℕ → ℕ → ℕ → ℕ → ℕ → ℕ → Type 0
 RunCounts (Ok passed) reads reads' reader reader' writer writer' = (reader' ≡ reader) × (writer' ≡ writer)
 RunCounts (Err fault) reads reads' reader reader' writer writer' = CountsOf fault reads reads' reader reader' writer writer'

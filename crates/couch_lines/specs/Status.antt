@@ -1,4 +1,4 @@
--- The exit status of the program `couch_lines`, as specified in docs/PROFILE.md, "Options of `couch_lines`".
+-- Defines the exit status of the program `couch_lines`, as specified in docs/PROFILE.md, "Options of `couch_lines`".
 use Rattle.std.specs.Prelude.{ℕ, ◌==◌, Bool, true, false, cond, Result, Ok, Err}
 use Rattle.clap.specs.Words.{kind_of}
 use Rattle.cli_common.specs.Status.{kind_status}

@@ -1,4 +1,5 @@
--- The task that a command line of `couch_lines` names, as specified in docs/PROFILE.md, "Options of `couch_lines`".
+-- Defines the task that a command line of `couch_lines` names, as specified in docs/PROFILE.md, "Options of
+-- `couch_lines`".
 use Rattle.std.specs.Prelude.{◌≡◌, ◌^◌, ◌<◌, ℕ, ◌&&◌, ◌||◌, ◌==◌, nat_lt, nat_le, length, List, Bool, Option, Some, None, option_map, codes, string_bytes, true, false}
 use Rattle.std.specs.List.{list_all}
 use Rattle.std.specs.Str.Parse.{without_leading_plus, IsNumeral, digits_value}
@@ -21,7 +22,8 @@ is_name_byte b =
 abbrev pub is_name : List ℕ → Bool
 is_name text = nat_lt 0 (length text) && nat_le (length text) 32 && list_all is_name_byte text
 
--- The number of items per request body: the number in the given text, or the default `absent` if there is no text.
+-- The number of items per request body: the number that the given text represents, or the default `absent` if there is
+-- no text.
 abbrev pub IsSize : ℕ → Option (List ℕ) → ℕ → Type 0
 IsSize absent None n = n ≡ absent
 IsSize absent (Some text) n =
@@ -45,7 +47,7 @@ abbrev pub IsNamedOrNone : Option (List ℕ) → Option (List ℕ) → Type 0
 IsNamedOrNone word None = word ≡ None
 IsNamedOrNone word (Some db) = IsNamed word db
 
--- The task of `couch_lines` with a given name, argument and flags.
+-- The task of `couch_lines` with the name `named`, the argument `word`, and the flags `whole` and `svg`.
 abbrev pub Fits : Named → Option (List ℕ) → Bool → Bool → Task → Type 0
 Fits named.Load word whole svg (Load db w) = IsNamed word (string_bytes db) × (w ≡ whole) × (svg ≡ false)
 Fits named.Load word whole svg (Ids n) = ⊥
@@ -91,8 +93,9 @@ Asks word second third whole svg task = (n : Named) × (word ≡ Some (word_of n
 
 -- ---- arguments without a task
 
--- The reason why task n cannot be built from an argument and flags. The reason is `Wrong` only if n does not accept the
--- argument and flags. The reason `Memory` is possible for every argument.
+-- The reason why task n cannot be built from the argument `word` and the flags `whole` and `svg`. The reason is `Wrong`
+-- only if task n does not accept the argument and flags. The reason `Memory` (a failed allocation) is possible for
+-- every argument.
 abbrev pub FitsNone : Named → Option (List ℕ) → Bool → Bool → NoTask → Type 0
 FitsNone n word whole svg (Words error) = ⊥
 FitsNone n word whole svg Unknown = ⊥
@@ -100,16 +103,16 @@ FitsNone n word whole svg (Wrong m) = (m ≡ n) × ((t : Task) → Fits n word w
 FitsNone n word whole svg Memory = Unit {0}
 
 -- The reason why task n does not accept an argument. The reason is `Wrong` only if the argument is absent or is not a
--- database name. The reason `Memory` is possible for every argument.
+-- database name. The reason `Memory` (a failed allocation) is possible for every argument.
 abbrev pub NamesNone : Named → Option (List ℕ) → NoTask → Type 0
 NamesNone n word (Words error) = ⊥
 NamesNone n word Unknown = ⊥
 NamesNone n word (Wrong m) = (m ≡ n) × ((db : List ℕ) → IsNamed word db → ⊥)
 NamesNone n word Memory = Unit {0}
 
--- The reason why arguments name no task. The reason is `Unknown` only if the first argument is not the name of a task.
--- The reason is `Wrong` only if the named task does not accept the further arguments. The reason `Memory` is possible
--- for all arguments.
+-- The reason why the arguments of a command line name no task. The reason is `Unknown` only if the first argument is
+-- not the name of a task. The reason is `Wrong` only if the named task does not accept the further arguments. The
+-- reason `Memory` (a failed allocation) is possible for all arguments.
 abbrev pub AskNothing : Option (List ℕ) → Option (List ℕ) → Option (List ℕ) → Bool → Bool → NoTask → Type 0
 AskNothing word second third whole svg (Words error) = ⊥
 AskNothing word second third whole svg Unknown = (n : Named) → word ≡ Some (word_of n) → ⊥
@@ -134,13 +137,13 @@ command_line =
     with_rule (with_rule (with_rule (with_rule (with_rule (program_app (codes "couch_lines")) task_word) second_word)
     (hidden_option (codes "further"))) (flag_option (codes "whole"))) (flag_option (codes "svg"))
 
--- The texts of a command line's arguments and flags name the given task.
+-- The texts of a command line's arguments and flags name the task `task`.
 abbrev pub SaysBy : (List ℕ → Option (List ℕ)) → Option (List ℕ) → Option (List ℕ) → Task → Type 0
 SaysBy text flag drawn task =
     (whole : Bool) × (svg : Bool) × IsFlag flag whole × IsFlag drawn svg
     × Asks (text (codes "task")) (text (codes "of")) (text (codes "further")) whole svg task
 
--- The texts of a command line's arguments and flags name no task, for the given reason.
+-- The reason why the texts of a command line's arguments and flags name no task.
 abbrev pub RefusesBy : (List ℕ → Option (List ℕ)) → Option (List ℕ) → Option (List ℕ) → NoTask → Type 0
 RefusesBy text flag drawn why =
     (whole : Bool) × (svg : Bool) × IsFlag flag whole × IsFlag drawn svg

@@ -64,7 +64,7 @@ pub enum NoTask {
     Words(Error),
     /// The task is unknown.
     Unknown,
-    /// The named task does not take the given arguments.
+    /// The task that the command line names does not take the given arguments.
     Wrong(Named),
     /// An allocation failed.
     Memory,

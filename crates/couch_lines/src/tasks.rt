@@ -26,7 +26,7 @@ pub enum Task {
     /// task unwraps the documents from envelopes.
     Bulk(u64, bool),
     /// The task `Trees(db, svg)` draws the output of a script, as SVG if `svg` is true and otherwise as text. If `db`
-    /// is the name of a database, the task also writes the commands that resolve conflicts.
+    /// is the name of a database, a text picture also has the commands that resolve conflicts.
     Trees(Option<String>, bool),
 }
 

@@ -1,4 +1,4 @@
--- The pictures of a script's output, as specified in docs/PROFILE.md, "Pictures".
+-- Defines the pictures of a script's output, as specified in docs/PROFILE.md, "Pictures".
 use Rattle.std.specs.Prelude.{◌≡◌, ℕ, ◌<◌, ◌≤◌, Bool, true, false, List, [], ◌∷◌, ◌++◌, Option, Some, None, Result, Ok, Err, IsPermutation, map, codes, option_map, String, string_bytes, Vec, vec_len, chars, ⊤}
 use Rattle.std.specs.declared.alloc.Global.{Global}
 use Rattle.std.specs.Borrow.{Bor}
@@ -52,8 +52,8 @@ pub record Holds (d : Document) (id : List ℕ) (leaves : List State) : Type 0 w
   pub named : string_bytes d.id ≡ id
   pub read : states d ≡ leaves
 
--- The effect of one line of a script's output: the document that is open after the line, and the picture's item that
--- the line completes, if there is one.
+-- What one line of a script's output changes: the document that is open (incomplete) after the line, and the picture's
+-- item that the line completes, if there is one.
 pub data IsNext : Option Document → Told → Option Document → Option Whole → Type 0 where
   -- A line of a script's output that begins a document.
   opened : {old : Option Document} {id : String Global} {count : ℕ} {d : Document} → Holds d (string_bytes id) [] → d.count ≡ count
@@ -98,7 +98,8 @@ IsDrawn form db (Some (wholes.Found f)) text = Draws [] text (signs_of_found for
 IsDrawn form db (Some (wholes.Row r)) text = Draws [] text (signs_of_row form r.table (string_bytes r.name) r.numbers.items)
 IsDrawn form db (Some (wholes.Log l)) text = Draws [] text (signs_of_log form (string_bytes l.id) l.entries.items)
 
--- The state of drawing between two lines: the format, the database, and the open document.
+-- The state of drawing between two lines of the input: the picture's format, the name of the database, and the open
+-- (incomplete) document.
 pub record Sketch : Type 0 where
   pub form : Form
   pub db : Option (List ℕ)
@@ -107,7 +108,8 @@ pub record Sketch : Type 0 where
 abbrev pub sketch_of : Form → Option (Bor (List ℕ)) → Option Document → Sketch
 sketch_of form db begun = record { form = form; db = option_map (λ (s : Bor (List ℕ)). s.now) db; begun = begun }
 
--- The effect of a line of a script's output: the drawing of the item that the line completes, or the empty text.
+-- What a line of a script's output adds to a picture: the drawing of the item that the line completes, or the empty
+-- text.
 pub record Takes (old : Sketch) (line : List ℕ) (new : Sketch) (text : List ℕ) : Type 0 where
   pub told : Told
   pub whole : Option Whole
@@ -117,8 +119,8 @@ pub record Takes (old : Sketch) (line : List ℕ) (new : Sketch) (text : List �
   pub form : new.form ≡ old.form
   pub db : new.db ≡ old.db
 
--- The result of a line of a script's output: the drawing of the item that the line completes, or an error. After a
--- failed allocation, the picture has no open document.
+-- The result of processing a line of a script's output: the drawing of the item that the line completes, or an error.
+-- After a failed allocation, the picture has no open document.
 abbrev pub Pictures : Answering Sketch (List ℕ)
 Pictures old line (Ok text) new = Takes old line new text
 Pictures old line (Err name) new =
@@ -126,7 +128,7 @@ Pictures old line (Err name) new =
 
 -- ---- everything from a reader
 
--- The state of drawing before the first line.
+-- The state of drawing before the first line of the input, which has no open document.
 abbrev pub first_sketch : Form → Option (List ℕ) → Sketch
 first_sketch form db = record { form = form; db = db; begun = None }
 
@@ -144,8 +146,8 @@ pub record IsPictureOf (form : Form) (db : Option (List ℕ)) (input : List ℕ)
   pub parts : picture ≡ (head ++ text) ++ tail
   pub safe : (shows : List ℕ) → IsSafe form (shown form (chars shows))
 
--- The call wrote a picture of the input, which is all remaining bytes of the reader (`left`). The writer had accepted
--- the bytes `held` before the call, and the bytes `held'` after the call.
+-- The call wrote a picture of its input, which consists of all remaining bytes of the reader (`left`). The writer had
+-- accepted the bytes `held` before the call, and the bytes `held'` after the call.
 pub record IsPictured (form : Form) (db : Option (List ℕ)) (clean : Bool) (left held held' : Option (List ℕ)) : Type 0 where
   pub input : List ℕ
   pub gives : Gives left input
@@ -165,8 +167,8 @@ IsDrawnUntil Write form db input text = ⊤
 IsDrawnUntil Memory form db input text = BeginsPicture (AnswersFirst Pictures (first_sketch form db) input) text
 IsDrawnUntil Cut form db input text = BeginsPicture (AnswersCut Pictures (first_sketch form db) input) text
 
--- The call failed, and has written a prefix of a picture of the input, which is all remaining bytes of the reader
--- (`left`). The writer had accepted the bytes `held` before the call, and the bytes `held'` after the call.
+-- The call failed, and has written a prefix of a picture of its input, which consists of all remaining bytes of the
+-- reader (`left`). The writer had accepted the bytes `held` before the call, and the bytes `held'` after the call.
 pub record IsPicturedUntil (fault : ScriptFault) (form : Form) (db : Option (List ℕ)) (left held held' : Option (List ℕ)) : Type 0 where
   pub input : List ℕ
   pub gives : Gives left input

@@ -1,4 +1,4 @@
--- The contents of pictures, as specified in docs/PROFILE.md, "Pictures".
+-- Defines the contents of pictures, as specified in docs/PROFILE.md, "Pictures".
 use Rattle.std.specs.Prelude.{◌≡◌, ◌==◌, ◌&&◌, ◌*◌, ◌/◌, ◌-◌, nat_le, drop, get_or, ℕ, Bool, true, false, not, if◌then◌else◌, List, [], ◌∷◌, ◌++◌, Option, Some, None, map, codes, chars, decimal, encode_utf8_all, max, string_bytes, take}
 use Rattle.std.specs.List.{flat_map}
 use Rattle.rev_core.specs.Rev.{RevId}
@@ -145,7 +145,7 @@ table_text tables.Compared = codes "compare"
 table_text tables.Info = codes "database "
 table_text tables.Session = codes "session "
 
--- A part of a total, scaled to a number from 0 to 400. The total is scaled to 400.
+-- The length of a part of a total on a scale from 0 to 400, with 400 as the length of the total.
 abbrev pub share : ℕ → ℕ → ℕ
 share part all = if all == 0 then 400 else (if nat_le 400 (part * 400 / all) then 400 else part * 400 / all)
 
@@ -194,7 +194,7 @@ sign_ink (chart form written read most) = chart_ink form written read most
 
 -- ---- pieces
 
--- A piece of a picture: markup, a number, an ancestor, or a sign.
+-- A piece of a picture: markup, a number, an ancestor, or a sign (such as a leaf or a bar).
 pub data Piece : Type 0 where
   mark : Markup → Piece
   number : ℕ → Piece
@@ -218,7 +218,8 @@ sign_in (whole r) = []
 sign_in (short r) = []
 sign_in (sign s) = s ∷ []
 
--- The new text is the old text followed by pieces of a picture, and the signs of the pieces are `signs`, in order.
+-- The text `new` is the text `old` followed by pieces of a picture, and `signs` lists the signs among these pieces, in
+-- order.
 pub record Draws (old new : List ℕ) (signs : List Sign) : Type 0 where
   pub pieces : List Piece
   pub ink : new ≡ old ++ flat_map ink_of pieces
@@ -246,7 +247,8 @@ signs_of forms.Svg db id leaves = title forms.Svg id ∷ map (leaf_sign forms.Sv
 
 -- ---- signs of other lines
 
--- The signs that draw a finding of `compare`: a sign for the finding, and a sign for each of its revisions.
+-- The signs that draw a finding of `compare`: a sign for the finding, and a sign for each revision that the finding
+-- lists.
 abbrev pub signs_of_found : Form → Finding → List ℕ → List RevId → List Sign
 signs_of_found form finding id revs = found form finding id ∷ map listed revs
 

@@ -15,7 +15,7 @@ pub struct Point {
     count: usize,
 }
 
-/// A branch, which is a run of consecutive revisions of an ancestry.
+/// A branch, which consists of consecutive revisions of an ancestry.
 #[derive(Drop)]
 struct Branch {
     /// The parent of the branch's first revision, if the parent is known.
@@ -41,7 +41,7 @@ pub struct Ancestries {
     starts: Option<Box<IndexMap<Start, usize>>>,
 }
 
-/// A path from the newest revision of an ancestry to its oldest revision.
+/// A path from the newest revision of an ancestry to the ancestry's oldest revision.
 #[derive(Clone, Copy)]
 struct Climb {
     /// The revision that the path has reached, or `None` after the oldest revision.
@@ -51,7 +51,7 @@ struct Climb {
 }
 
 impl Climb {
-    /// The index of the reached revision's branch plus one, or 0 at the path's end.
+    /// One more than the index of the reached revision's branch, or 0 at the path's end.
     fn height(&self) -> usize {
         match self.at {
             Some(point) => point.branch.saturating_add(1),
@@ -218,8 +218,9 @@ impl Ancestries {
         self.next(one, count).cmp(&self.next(other, count))
     }
 
-    /// Follows two ancestries to the last branch that both have. Each step leaves the branch of one of the two paths,
-    /// namely the branch that was added later. A branch is always added after the branch from which it branches off.
+    /// Follows two ancestries to the last branch that both have. Each step moves one of the two paths out of its
+    /// branch, namely the path whose branch was added later. A branch is always added after the branch from which it
+    /// branches off.
     fn fork(&self, one: Option<Point>, other: Option<Point>) -> (Climb, Climb) {
         let mut one = Climb {
             at: one,

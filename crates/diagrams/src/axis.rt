@@ -1,5 +1,5 @@
 //! Computes the columns of a diagram of a revision tree. A generation at which a row begins, ends or forks has a column
-//! of its own. Between two neighbouring columns for single generations, all other generations share one column.
+//! of its own. All generations between two neighbouring columns for single generations share one column.
 
 use crate::ancestries::Ancestries;
 use crate::document::Leaf;
@@ -55,8 +55,8 @@ pub fn start_of(leaf: &Leaf, row: &Row) -> u32 {
     row.hang + 1
 }
 
-/// Builds a column for each generation in `kept`, and one column for all generations between two neighbouring
-/// generations of `kept`.
+/// Builds a column for each generation in the list `kept`, and one column for all generations between two neighbouring
+/// generations of the list.
 fn cells_of(alloc: Global, kept: &[u32]) -> Result<Vec<Cell>, AllocError> {
     let mut cells = Vec::new(alloc);
     let mut next = kept.first().copied().unwrap_or(0);

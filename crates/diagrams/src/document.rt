@@ -16,7 +16,7 @@ pub struct Leaf {
     /// The leaf's parent, if the parent is known. In the leaf's ancestry, each revision's generation is one above the
     /// generation of its parent.
     pub parent: Option<Point>,
-    /// The generation of the oldest known ancestor, or of the leaf if no ancestor is known.
+    /// The generation of the leaf's oldest known ancestor, or of the leaf if no ancestor is known.
     pub oldest: u32,
     /// The revision.
     pub rev: Rev,

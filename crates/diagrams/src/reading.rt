@@ -1,4 +1,4 @@
-//! Assembling documents from lines.
+//! Assembles documents from the lines of a script's output.
 ghost use Rattle.std.specs.Prelude.{◌≡◌, [], Some, None, true, IfOk, IfSome, IfNone, string_bytes};
 ghost use Rattle.rev_core.specs.Ancestry.{head_of};
 ghost use Rattle.output_parser.specs.declared.told.Told.TheVariants as lines;
@@ -72,7 +72,8 @@ fn read_leaf(
     }
 }
 
-/// Builds a leaf from an ancestry, newest first. Returns `None` if the ancestry is empty.
+/// Builds a leaf from an ancestry, which is given with the newest revision first. Returns `None` if the ancestry is
+/// empty.
 fn leaf_of(live: bool, revs: &[Rev]) -> Option<Leaf>
     ensures some { IfSome result (λ l. (head_of revs.now ≡ Some l.rev) × (l.live ≡ live)) }
     ensures none { IfNone result (head_of revs.now ≡ None) }

@@ -65,8 +65,8 @@ pub fn rows_of(
     Ok(rows)
 }
 
-/// Returns the last row in which a revision of a given generation is drawn. The call drops the rows after the returned
-/// row from `branches`, because later leaves never branch off a dropped row.
+/// Returns the last row in which a revision of a given generation is drawn. The call removes the rows after the
+/// returned row from `branches`, because later leaves never branch off a removed row.
 fn parent_of(branches: &mut Vec<Branch>, hang: u32) -> usize {
     for _ in 0..branches.len() {
         match branches.last() {
@@ -88,8 +88,9 @@ fn open_below(alloc: Global, rows: &mut [Row]) -> Result<(), AllocError> {
     Ok(())
 }
 
-/// Replaces the generations in `open`, at which vertical edges continue below a row, by those for the previous row. The
-/// row branches off at the generation `hang`, or does not branch off if `hang` is 0.
+/// Replaces the generations in `open`, at which vertical edges continue below a row, by the generations at which
+/// vertical edges continue below the previous row. The row branches off at the generation `hang`, or does not branch
+/// off if `hang` is 0.
 fn close(open: &mut Vec<u32>, hang: u32) -> Result<(), AllocError> {
     open.retain(|generation| *generation < hang);
     if hang > 0 {

@@ -1,4 +1,4 @@
--- Revisions by document, in the order in which the documents and revisions first appear.
+-- Defines lists of documents, each with its revisions, in the order in which the documents and revisions first appear.
 use Rattle.std.specs.Prelude.{ℕ, List, [], ◌∷◌, ◌++◌, if◌then◌else◌, Option, None, Some, map, bytes_eq, String, string_bytes}
 use Rattle.std.specs.Global.{Global}
 use Rattle.std.specs.List.{list_any}
@@ -20,7 +20,7 @@ abbrev pub keys_or_none : {S : Type 0} → Option (IndexSet (String Global) S) �
 keys_or_none None = []
 keys_or_none (Some revs) = revs.keys
 
--- A list of revisions after adding revision `rev`, or the unchanged list if it already has this revision.
+-- A list of revisions after adding revision `rev`, or the unchanged list if the list already has this revision.
 abbrev pub add_rev : List (List ℕ) → List ℕ → List (List ℕ)
 add_rev revs rev = if list_any (bytes_eq rev) revs then revs else revs ++ rev ∷ []
 

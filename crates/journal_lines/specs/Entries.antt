@@ -1,4 +1,4 @@
--- The lines of a journal, as specified in docs/PROFILE.md, "Journals".
+-- Defines the lines of a journal, as specified in docs/PROFILE.md, "Journals".
 use Rattle.std.specs.Prelude.{ℕ, List, Option, None, Some, codes}
 use Rattle.journal_lines.specs.Texts.{after}
 use Rattle.journal_lines.specs.Lists.{LeavesView, leaves_in, leaves_view}

@@ -1,4 +1,4 @@
--- The heads of documents.
+-- Defines the heads of documents.
 use Rattle.std.specs.Prelude.{ℕ, Bool, false, ◌||◌, ◌-◌, List, [], ◌∷◌, ◌++◌, Option, None, Some, option_map, option_and_then, unwrap_or, bytes_eq, codes, decimal, String, string_bytes, Vec}
 use Rattle.std.specs.Global.{Global}
 use Rattle.json.specs.Json.{Json, document}
@@ -20,8 +20,8 @@ leaf_view leaf = (string_bytes leaf.rev, leaf.start, texts_of leaf.names.items)
 abbrev pub rev_at : ℕ → List ℕ → List ℕ
 rev_at generation name = decimal generation ++ codes "-" ++ name
 
--- Whether a revision id has one of the given signatures and the signature's generation. The signatures have the
--- generations from `start` on, falling by one.
+-- Whether a revision id has one of the given signatures and the signature's generation. The first signature has the
+-- generation `start`, and each later signature has the generation below the previous signature's generation.
 abbrev pub knows_at : List ℕ → ℕ → List (List ℕ) → Bool
 knows_at rev start [] = false
 knows_at rev start (name ∷ names) = bytes_eq rev (rev_at start name) || knows_at rev (start - 1) names
@@ -30,7 +30,7 @@ knows_at rev start (name ∷ names) = bytes_eq rev (rev_at start name) || knows_
 abbrev pub knows_rev : LeafView → List ℕ → Bool
 knows_rev leaf rev = bytes_eq rev leaf.0 || knows_at rev leaf.1 leaf.2
 
--- The head of a document: its id, its revision with the ancestry, and whether it is deleted.
+-- The head of a document: the document's id, its revision with the ancestry, and whether the document is deleted.
 abbrev pub HeadView : Type 0
 HeadView = List ℕ × LeafView × Bool
 
@@ -63,6 +63,7 @@ abbrev pub head_in : Json → Option HeadView
 head_in doc = option_map (head_by (is_deleted doc))
     (both (text_at (codes "_id") doc) (both (text_at (codes "_rev") doc) (ancestry_by (get (codes "_revisions") doc))))
 
--- The head of the document in a line, which is a JSON object whose member `doc` is the document.
+-- The head of the document in a journal line. The line must be a JSON object, and the document is the object's member
+-- `doc`.
 abbrev pub line_head : List ℕ → Option HeadView
 line_head line = option_and_then (λ j. option_and_then head_in (get (codes "doc") j)) (option_and_then document (text_in line))

@@ -1,4 +1,4 @@
--- Lines that list the leaves of a document, as specified in docs/PROFILE.md, "Journals".
+-- Defines the lines that list the leaves of a document, as specified in docs/PROFILE.md, "Journals".
 use Rattle.std.specs.Prelude.{ℕ, if◌then◌else◌, List, [], ◌∷◌, ◌++◌, Option, None, Some, String, string_bytes, option_and_then, map, flat_map, codes}
 use Rattle.std.specs.Global.{Global}
 use Rattle.json.specs.Json.{Json, Items, no_items, item, null, boolean, number, string, array, object, document}
@@ -55,15 +55,15 @@ named_in seq (string s) = None
 named_in seq (array js) = named_items seq js
 named_in seq (object ms) = None
 
--- The leaves that a JSON list names at a sequence.
+-- The sequence `seq`, with the document id and the revisions that a JSON list names.
 abbrev pub list_in : List ℕ → List ℕ → Option LeavesView
 list_in seq list = option_and_then (named_in seq) (document list)
 
 abbrev pub token : List ℕ → Option (List ℕ)
 token text = if is_token text then Some text else None
 
--- The leaves of a line, given its sequence and the text of its JSON list. The result is `None` if the sequence or the
--- text is absent, or if the text is not a list of an id and revisions.
+-- The leaves of a journal line, given the line's sequence and the text of the line's JSON list. The result is `None` if
+-- the sequence or the text is absent, or if the text is not a list of an id and revisions.
 abbrev pub leaves_at : Option (List ℕ) → Option (List ℕ) → Option LeavesView
 leaves_at None list = None
 leaves_at (Some seq) None = None
@@ -73,7 +73,7 @@ abbrev pub leaves_by : Option (List ℕ × List ℕ) → Option LeavesView
 leaves_by None = None
 leaves_by (Some parts) = leaves_at (option_and_then token (text_in parts.0)) (text_in parts.1)
 
--- The leaves that a journal line names after its kind, from the sequence on.
+-- The leaves that a journal line names, given the rest of the line after the kind (`state` or `lacks`) and a blank.
 abbrev pub leaves_in : List ℕ → Option LeavesView
 leaves_in rest = leaves_by (cut_at_blank rest)
 

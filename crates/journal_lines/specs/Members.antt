@@ -1,4 +1,5 @@
--- The members of a JSON value. If a JSON object has a name twice, the last member with this name counts.
+-- Defines how the members of a JSON value are read. If a JSON object has a name twice, the last member with this name
+-- counts.
 use Rattle.std.specs.Prelude.{ℕ, ◌^◌, Bool, ◌&&◌, nat_lt, if◌then◌else◌, List, length, Option, None, Some, option_and_then}
 use Rattle.std.specs.List.{list_all}
 use Rattle.std.specs.Char.{digit_value}

@@ -1,4 +1,4 @@
--- The text of strings in journal lines.
+-- Defines the text of revisions and sequences in journal lines, and how a line is split after a prefix or at a blank.
 use Rattle.std.specs.Prelude.{ℕ, ◌+◌, Bool, ◌&&◌, ◌||◌, ◌==◌, not, nat_le, nat_lt, if◌then◌else◌, List, length, take, drop, Option, None, Some, bytes_eq}
 use Rattle.std.specs.List.{list_all, position}
 use Rattle.std.specs.Str.{is_utf8}

@@ -12,7 +12,8 @@ use itoa::Buffer;
 use json::{Scratch, Value};
 use std::alloc::{AllocError, Global};
 
-/// The head of a document, which is its id, its revision, the revision's ancestry, and whether it is deleted.
+/// The head of a document, which consists of the document's id, revision and known ancestry, and of whether the
+/// document is deleted.
 #[derive(Drop)]
 pub struct Leaf {
     /// The id of the document.
@@ -60,7 +61,7 @@ impl Leaf {
         self.start.saturating_sub(index as u64)
     }
 
-    /// Whether the given revision is the leaf or one of its ancestors.
+    /// Whether the given revision is the leaf or one of the leaf's ancestors.
     pub fn knows(&self, alloc: Global, rev: &str) -> Result<bool, AllocError>
         ensures { IfOk result (λ knows. knows ≡ knows_rev (leaf_view self.now) rev.now) }
     {
@@ -144,7 +145,7 @@ fn head_at(alloc: Global, value: &Value<'_>) -> Result<Option<Leaf>, AllocError>
     }
 }
 
-/// Returns the head of the document that a line has, if the line is a JSON object with a document.
+/// Returns the head of the document in a line, if the line is a JSON object with a document in the member `doc`.
 pub(crate) fn leaf_of(
     alloc: Global,
     scratch: &mut Scratch,

@@ -121,8 +121,8 @@ fn seq_of(bytes: &[u8]) -> Option<&str>
     }
 }
 
-/// Returns the leaves that a line lists after its kind. After its kind, the line has a sequence, a blank and a JSON
-/// list.
+/// Returns the leaves that a line lists after its kind. A valid line has a sequence, a blank and a JSON list after its
+/// kind.
 pub(crate) fn leaves_of(
     alloc: Global,
     scratch: &mut Scratch,

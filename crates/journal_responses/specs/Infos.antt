@@ -1,4 +1,4 @@
--- The output for a response that describes a server or a database.
+-- Defines the output for a response that describes a server or a database.
 use Rattle.std.specs.Prelude.{ℕ, Bool, true, false, ◌&&◌, not, is_some, if◌then◌else◌, List, ◌++◌, bytes_eq, codes}
 use Rattle.json.specs.Json.{Json, null, boolean, number, string, array, object}
 use Rattle.json.specs.Find.{get}

@@ -1,4 +1,5 @@
--- The members of a JSON value. If a JSON object has a name twice, the last member with this name counts.
+-- Defines how the members of a JSON value, such as sequences, are read. If a JSON object has a name twice, the last
+-- member with this name counts.
 pub use Rattle.journal_lines.specs.Members.{both, items_at, text_at}
 use Rattle.std.specs.Prelude.{ℕ, List, Option, None, Some, option_and_then}
 use Rattle.json.specs.Json.{Json, null, boolean, number, string, array, object}

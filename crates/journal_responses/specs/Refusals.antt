@@ -1,11 +1,11 @@
--- The output for a response of `_bulk_docs`.
+-- Defines the output for a response of `_bulk_docs`.
 use Rattle.std.specs.Prelude.{ℕ, Bool, false, ◌||◌, if◌then◌else◌, List, [], ◌++◌, Option, codes, is_some}
 use Rattle.json.specs.Json.{Json, Items, no_items, item}
 use Rattle.json.specs.Find.{get}
 use Rattle.json.specs.Print.{quoted}
 use Rattle.journal_responses.specs.Members.{text_at, text_or}
 
--- The value of a JSON object's member, or the empty text if the value is not a string.
+-- The value of a JSON object's member, or the empty text if the member is missing or is not a string.
 abbrev pub word_at : List ℕ → Json → List ℕ
 word_at name j = text_or [] (text_at name j)
 

@@ -1,4 +1,4 @@
--- The contents of a server's response, or the reason why the response is not the requested one.
+-- Defines the contents of a server's response, or the reason why the response is not the requested one.
 use Rattle.std.specs.Prelude.{◌≡◌, ℕ, List, Option, None, Some, codes, option_and_then, string_bytes, ⊤}
 use Rattle.json.specs.Json.{Json, document}
 use Rattle.journal_lines.specs.Texts.{text_in}

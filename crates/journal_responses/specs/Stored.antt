@@ -1,4 +1,4 @@
--- The output for a page of changes, given the form in which the program stores the page.
+-- Defines the output for a page of changes, given the form in which the program stores the page.
 use Rattle.std.specs.Prelude.{ℕ, Bool, List, map, string_bytes}
 use Rattle.journal_lines.specs.Lists.{leaves_view}
 use Rattle.journal_responses.specs.Pages.{page_by}

@@ -58,8 +58,8 @@ fn is_info(value: &Value<'_>) -> bool
 ///
 /// # Errors
 ///
-/// Returns `Error` or `Other` if the value is not an object or is an error of CouchDB. Returns `Memory` if an
-/// allocation failed.
+/// Returns `Error` if the value is an error of CouchDB, or `Other` if the value is neither a description nor an error.
+/// Returns `Memory` if an allocation failed.
 pub fn info_of(alloc: Global, text: &mut Vec<u8>, value: &Value<'_>) -> Result<(), Said>
     ensures ok { OnOk result ((text.new.items ≡ text.old.items ++ info_text (value_view value.now))
         × (is_info (value_view value.now) ≡ true)) }

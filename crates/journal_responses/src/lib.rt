@@ -1,5 +1,5 @@
-//! Reads the responses of CouchDB that the jobs need: pages of changes, responses of `_bulk_docs`, and descriptions of
-//! servers and databases.
+//! Reads the responses of CouchDB that the jobs (folder `jobs/`) need: pages of changes, responses of `_bulk_docs`, and
+//! descriptions of servers and databases.
 #![tactic(auto)]
 
 mod info;

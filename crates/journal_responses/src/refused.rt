@@ -79,7 +79,8 @@ fn push_entries(
 ///
 /// # Errors
 ///
-/// Returns `Error` or `Other` if the value is not a list. Returns `Memory` if an allocation failed.
+/// Returns `Error` if the value is an error of CouchDB, or `Other` if the value is neither a list nor an error. Returns
+/// `Memory` if an allocation failed.
 pub fn refused_of(alloc: Global, text: &mut Vec<u8>, value: &Value<'_>) -> Result<bool, Said>
     ensures ok { IfOk result (λ refused. IsSomeAnd (as_array (value_view value.now)) (λ entries.
         (text.new.items ≡ text.old.items ++ refused_text entries) × (refused ≡ any_refused entries))) }

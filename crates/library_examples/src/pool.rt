@@ -26,7 +26,7 @@ const ORDERS: u64 = 1_000;
 /// The number of fetcher threads, and the number of writer threads.
 const WORKERS: usize = 4;
 
-/// The maximum number of times that the viewer reads the board.
+/// The maximum number of times that the viewer reads the progress board.
 const LOOKS: u64 = 10_000_000;
 
 /// Replicates the shop into its copy while a viewer reads the progress.
@@ -76,7 +76,7 @@ fn write_orders(alloc: Global, shop: &mut Peer<Rules>) -> Result<()> {
 }
 
 /// Runs the pool while a viewer reads the progress board. Returns the result of the run, and the totals that the viewer
-/// read last from the board.
+/// read last from the progress board.
 fn run_watched<R: Threads + Wait + Eprint + Sync>(
     rt: &R,
     alloc: Global,
@@ -115,8 +115,8 @@ fn run_watched<R: Threads + Wait + Eprint + Sync>(
     )
 }
 
-/// Reads the board until the run has ended, and prints the totals whenever they have changed. The viewer reads the
-/// board once more after the end of the run.
+/// Reads the progress board, and prints the totals whenever the totals have changed. The function returns after a read
+/// that began after the end of the run, or after `LOOKS` reads.
 fn watch<R: Eprint>(rt: &R, board: &Board, ended: &AtomicBool, viewer: BoardSeat) -> (u64, u64)
     requires { CameWith board.now viewer }
 {

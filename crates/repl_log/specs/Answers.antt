@@ -1,4 +1,4 @@
--- The result of a call that may run out of memory.
+-- Defines the possible results of a call that may run out of memory.
 use Rattle.std.specs.Prelude.{◌≡◌, ℕ, List, Vec, Result, Ok, Err, IsOk}
 use Rattle.std.specs.declared.alloc.Global.{Global}
 use Rattle.repl_log.specs.declared.fault.LogFault.{LogFault}

@@ -1,4 +1,4 @@
--- The counts of a session, as specified in docs/PROFILE.md, "Replication ids and logs".
+-- Defines the counts of a session, as specified in docs/PROFILE.md, "Replication ids and logs".
 use Rattle.std.specs.Prelude.{◌≡◌, ℕ, ◌+◌, refl}
 use Rattle.std.specs.Coded.{Coded, code_by, coded×, coded_ℕ}
 use Rattle.repl_log.specs.declared.counts.Counts.{Counts}

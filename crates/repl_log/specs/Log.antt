@@ -1,5 +1,5 @@
--- Logs, and the common checkpoint of two logs, as specified in docs/PROFILE.md, "Replication ids and logs" and "Common
--- checkpoint".
+-- Defines logs, and the common checkpoint of two logs, as specified in docs/PROFILE.md, "Replication ids and logs" and
+-- "Common checkpoint".
 use Rattle.std.specs.Prelude.{◌≡◌, ℕ, Bool, false, ◌==◌, nat_eq, nat_lt, if◌then◌else◌, min, List, ◌∷◌, ◌++◌, map, Option, Some, None, option_and_then, Result, Ok, Err}
 use Rattle.std.specs.List.{find, list_any, IsDistinct, AllByRecursion}
 use Rattle.std.specs.Option.{option_map}

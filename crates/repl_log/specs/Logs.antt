@@ -1,4 +1,4 @@
--- Tables with the logs of replications, as specified in docs/PROFILE.md, "Replication ids and logs".
+-- Defines tables with the logs of replications, as specified in docs/PROFILE.md, "Replication ids and logs".
 use Rattle.std.specs.Prelude.{List, [], ◌∷◌, Result, if◌then◌else◌}
 use Rattle.repl_log.specs.declared.replication.RepId.{RepId}
 use Rattle.repl_log.specs.declared.fault.LogFault.{LogFault}

@@ -1,4 +1,4 @@
--- Replication ids, as specified in docs/PROFILE.md, "Replication ids and logs".
+-- Defines replication ids, as specified in docs/PROFILE.md, "Replication ids and logs".
 use Rattle.std.specs.Prelude.{Bool, ◌==◌, ◌&&◌, nat_eq}
 use Rattle.std.specs.Option.{option_eq}
 use Rattle.std.specs.Cmp.Lexicographic.{pointwise}

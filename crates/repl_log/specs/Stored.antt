@@ -1,5 +1,5 @@
--- Tables that store values by session, oldest first. Contracts describe a table by the list of its values, newest
--- first.
+-- Describes tables that store values by session, oldest first. Contracts describe a table by the list of its values,
+-- newest first.
 use Rattle.std.specs.Prelude.{◌≡◌, ◌==◌, Bool, List, map, reverse}
 use Rattle.std.specs.List.{AllByRecursion}
 use Rattle.rev_tree.specs.declared.origin.SessionId.{SessionId}

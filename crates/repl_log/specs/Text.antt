@@ -1,4 +1,4 @@
--- The text form of replication ids and logs, as specified in docs/PROFILE.md, "Replication ids and logs".
+-- Defines the text form of replication ids and logs, as specified in docs/PROFILE.md, "Replication ids and logs".
 use Rattle.std.specs.Prelude.{ℕ, ◌<◌, ◌^◌, Bool, true, List, [], ◌∷◌, ◌++◌, map, codes, Some, None, Result, Ok, Err, refl}
 use Rattle.std.specs.Coded.{Coded, code_by, coded×, coded_ℕ, coded_list, coded_option}
 use Rattle.std.specs.Int.{w128, to_be_bytes}

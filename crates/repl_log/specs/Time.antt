@@ -1,4 +1,5 @@
--- The IMF-fixdate of a timestamp (RFC 9110, 5.6.7), with the calendar and format of the crate httpdate.
+-- Defines the text of a timestamp as an IMF-fixdate (RFC 9110, 5.6.7), with the calendar and format of the crate
+-- httpdate.
 use Rattle.std.specs.Prelude.{ℕ, zero, suc, ◌+◌, ◌-◌, ◌/◌, ◌%◌, nat_lt, if◌then◌else◌, List}
 use Rattle.httpdate.specs.declared.parts.Parts.{Parts}
 use Rattle.httpdate.specs.Calendar.{days_of_years, days_of_months, weekday}

@@ -14,8 +14,8 @@ pub struct Log {
     entries: IndexMap<SessionId, Entry>,
 }
 
-// This type has no `#[derive(Drop)]`, because each crate that owns such a value would have to prove the derived code
-// (docs/DECISIONS.md, "Letting values go").
+// This type has no `#[derive(Drop)]`, because each crate that owns a value of the type would have to prove the derived
+// code (docs/DECISIONS.md, "Letting values go").
 impl Drop for Log {
     fn drop(self) {
         let Log { entries: _ } = self;
@@ -97,7 +97,7 @@ impl Log {
         ensures err { OnErr result (self.new ≡ self.old) }
         ensures log { IsLog self.new }
     {
-        // The result of `len` is not used. The contract of `len` states that no session id occurs twice.
+        // The function calls `len` for the contract of `len`, which states that no session id occurs twice.
         let _len = self.entries.len();
         self.entries.insert(entry.session, entry)?;
         Ok(())
@@ -134,7 +134,7 @@ impl Log {
     pub fn recorded_of(&self, session: SessionId) -> Option<u64>
         ensures { result ≡ recorded_of self.now session }
     {
-        // The result of `len` is not used. The contract of `len` states that no session id occurs twice.
+        // The function calls `len` for the contract of `len`, which states that no session id occurs twice.
         let _len = self.entries.len();
         let entry = self.entries.get(&session)?;
         Some(entry.recorded)

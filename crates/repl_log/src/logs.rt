@@ -16,8 +16,8 @@ pub struct Logs {
     logs: IndexMap<RepId, Log>,
 }
 
-// This type has no `#[derive(Drop)]`, because each crate that owns such a value would have to prove the derived code
-// (docs/DECISIONS.md, "Letting values go").
+// This type has no `#[derive(Drop)]`, because each crate that owns a value of the type would have to prove the derived
+// code (docs/DECISIONS.md, "Letting values go").
 impl Drop for Logs {
     fn drop(self) {
         let Logs { logs: _ } = self;

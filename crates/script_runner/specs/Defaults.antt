@@ -1,4 +1,4 @@
--- The settings of `couch_replicate` without options, as specified in docs/PROFILE.md, "Options".
+-- Defines the settings of `couch_replicate` without options, as specified in docs/PROFILE.md, "Options".
 use Rattle.std.specs.Prelude.{None, false}
 use Rattle.script_databases.specs.Databases.{Program}
 

@@ -1,4 +1,4 @@
-//! Random selections of documents.
+//! Creates random selections of documents.
 use crate::tests::feeds::id;
 use crate::tests::merges::below;
 use crate::tests::plain_sides::{ALL, IDS, Picked, is_picked};

@@ -62,7 +62,8 @@ fn mask_of(rt: &impl Abort, revs: &[Rev]) -> u32 {
     mask
 }
 
-/// Asserts that a request for a document lists exactly those leaves of `tree` that `held` lacks, winner first.
+/// Asserts that a request for a document lists exactly those leaves of `tree` (the source's tree) that `held` (the
+/// target's tree) lacks, winner first.
 fn asks_of(
     rt: &impl Abort,
     alloc: Global,

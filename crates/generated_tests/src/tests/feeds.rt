@@ -87,7 +87,7 @@ pub(crate) fn put(
     holds(rt, is_answer(answer, wanted, plain.update_seq), "a put");
 }
 
-/// Asserts that a row has the id of the document with a given number, and the leaves of a given tree.
+/// Asserts that a row of a page has the id of the document with a given number, and the leaves of a given tree.
 fn row_has(rt: &impl Abort, alloc: Global, row: &Row, number: usize, tree: &Reference) {
     let leaves = tree.leaves(alloc).expect(rt, "memory");
     let same = number_of(rt, row.id().text()) == number;

@@ -1,4 +1,5 @@
-//! Finishes windows of a front in random orders, and compares the front with a list of Booleans after each call.
+//! Finishes windows of a front (a session's windows, in order) in random orders, and compares the front with a list of
+//! Booleans after each call.
 use crate::tests::checks::holds;
 use rand_chacha::ChaCha8Rng;
 use rand_core::{Rng, SeedableRng};
@@ -9,8 +10,8 @@ use std::process::Abort;
 /// The number of windows of a front.
 const WINDOWS: usize = 20;
 
-/// Returns the expected low water of a front. `marks[i]` states whether the window (start + 10 i, start + 10 i + 10] is
-/// done.
+/// Returns the expected low water of a front, which is the sequence up to which all windows of the front are done.
+/// `marks[i]` states whether the window (start + 10 i, start + 10 i + 10] is done.
 fn low_water(start: u64, marks: &[bool; WINDOWS]) -> u64 {
     let mut water = start;
     for mark in marks {
@@ -44,7 +45,7 @@ fn filled(rt: &impl Abort, alloc: Global, start: u64) -> Front {
     front
 }
 
-/// Finishes a window of a front, and asserts the result and the effect of the call.
+/// Finishes a window of a front, and asserts that the call has the expected result and that the window is then done.
 fn finish_one(rt: &impl Abort, front: &mut Front, lo: u64, is_done: bool) {
     let wanted = if is_done {
         Err(FrontFault::AlreadyDone)

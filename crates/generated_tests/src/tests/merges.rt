@@ -122,8 +122,8 @@ fn is_walk(rt: &impl Abort, alloc: Global, reference: &Reference, place: usize, 
     );
 }
 
-/// Whether a tree and the reference agree about the existence and the origin of a revision, and whether the revision is
-/// a leaf.
+/// Whether a tree and the reference agree about whether a revision exists, what its origin is, and whether it is a
+/// leaf.
 fn has_as(tree: &Tree, reference: &Reference, one: Rev, place: usize) -> bool {
     let stands = tree.has(one) == reference.has(place);
     let is_leaf = tree.is_leaf(one) == reference.is_leaf(place);

@@ -1,7 +1,7 @@
 //! Tests of networks whose peers are edited at random. After a replication through a hub, or two rounds of replications
 //! along a ring of peers, all peers must have the same documents. A repetition of the replication must change no peer,
-//! and audits must find no uncovered leaf. After replications along random hops, the last peer of each chain of hops
-//! must have all earlier leaves of the chain's first peer.
+//! and audits must find no uncovered leaf. After replications along random hops (each from one peer to another), the
+//! last peer of each chain of hops must have all earlier leaves of the chain's first peer.
 use crate::tests::checks::holds;
 use crate::tests::feeds::id;
 use crate::tests::merges::below;
@@ -42,7 +42,7 @@ fn at<'a>(rt: &impl Abort, net: &'a Net<Rules>, place: usize) -> &'a Peer<Rules>
     net.peer(place).expect(rt, "a peer")
 }
 
-/// Asserts that all audits are clean.
+/// Asserts that no audit finds an uncovered leaf.
 fn assert_clean(rt: &impl Abort, alloc: Global, net: &Net<Rules>) {
     for one in 0..PEERS {
         for other in 0..PEERS {
@@ -94,7 +94,7 @@ fn ring(rt: &impl Abort, alloc: Global, rng: &mut ChaCha8Rng, sessions: &mut u12
     hops
 }
 
-/// Returns random hops between the peers.
+/// Returns random hops (replications from one peer to another) between the peers.
 fn hops(rt: &impl Abort, alloc: Global, rng: &mut ChaCha8Rng, sessions: &mut u128) -> Vec<Hop> {
     let mut hops = Vec::new(alloc);
     for _ in 0..8 + below(rng, 32) {
@@ -108,8 +108,8 @@ fn hops(rt: &impl Abort, alloc: Global, rng: &mut ChaCha8Rng, sessions: &mut u12
     hops
 }
 
-/// Returns a mask for each peer. The mask has a bit for this peer, and for each peer that a chain of hops reaches from
-/// this peer.
+/// Returns a mask for each peer. A peer's mask has a bit for the peer itself, and for each peer to which a chain of
+/// hops leads from this peer.
 ///
 /// The function processes each hop once for each peer, instead of enumerating all chains of hops.
 fn reached(hops: &[Hop]) -> [u32; PEERS] {

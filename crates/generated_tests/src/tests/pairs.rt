@@ -20,8 +20,8 @@ use std::process::Abort;
 use std::sync::Wait;
 use std::thread::Threads;
 
-/// A random number below this bound determines which document the target refuses. If the random number is `IDS` or
-/// more, the target refuses no document.
+/// A random number below `CHOICES` determines which document the target refuses. If the random number is `IDS` or more,
+/// the target refuses no document.
 const CHOICES: u32 = 8;
 
 /// The indices in `Bench::picked` of all documents, the first selection and the second selection.
@@ -73,7 +73,8 @@ struct Side {
 }
 
 impl Side {
-    /// Creates a side without documents. The side refuses documents whose ids begin with a prefix.
+    /// Creates a side (a peer and the peer's plain model) without documents. The side refuses documents whose ids begin
+    /// with a prefix.
     fn new(alloc: Global, uuid: u128, deny: Option<String>) -> Side {
         Side {
             peer: Peer::new(alloc, uuid, Rules { deny }),
@@ -148,7 +149,7 @@ impl Bench {
         }
     }
 
-    /// Loads random documents into a side.
+    /// Loads random documents into a side (a peer and the peer's plain model).
     fn grow(&mut self, rt: &impl Abort, at: usize, loads: usize) {
         let side = self.sides.get_mut(at).expect(rt, "a side");
         for _ in 0..loads {

@@ -54,7 +54,7 @@ pub(crate) struct PlainSide {
 }
 
 impl PlainSide {
-    /// Creates a side without documents.
+    /// Creates a side (the plain model of a peer) without documents.
     pub(crate) fn new() -> PlainSide {
         PlainSide {
             documents: [None; IDS],
@@ -82,7 +82,8 @@ impl PlainSide {
         answer
     }
 
-    /// Merges a fetched document into a side, or refuses the document and returns the document's ledger row.
+    /// Merges a fetched document into a side (the plain model of a peer), or refuses the document and returns the
+    /// document's ledger row.
     pub(crate) fn take(
         &mut self,
         number: usize,
@@ -132,7 +133,7 @@ impl Carried {
         }
     }
 
-    /// Counts a fetched document as refused if `row` is a ledger row, and otherwise as written.
+    /// Counts a fetched document as refused if the argument `row` has a ledger row, and otherwise as written.
     fn count(&mut self, rt: &impl Abort, row: Option<Row>) {
         self.found = self.found.saturating_add(1);
         match row {

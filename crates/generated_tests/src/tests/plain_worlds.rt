@@ -12,7 +12,8 @@ use std::process::Abort;
 /// generation g has the index 3 (g - 1).
 pub(crate) const EDITED: usize = 4;
 
-/// A window, or a request for leaves of a window: the life of the source, the bounds, and the leaves.
+/// A window, or a request for leaves of a window: the life (incarnation) of the source's database, the bounds, and the
+/// leaves.
 #[derive(Clone, Copy)]
 pub(crate) struct Rows {
     life: u64,
@@ -35,7 +36,7 @@ pub(crate) struct Done {
     pub(crate) life: u64,
     pub(crate) start: u64,
     pub(crate) recorded: u64,
-    /// The times at which the session began and last recorded, in seconds since 1970.
+    /// The times at which the session began and last recorded its progress, in seconds since 1970.
     pub(crate) moments: (u64, u64),
     pub(crate) checked: u64,
     pub(crate) found: u64,
@@ -72,11 +73,13 @@ struct Copied {
 pub(crate) struct Met {
     /// The number of restores while windows, entries or logs were in transit.
     pub(crate) restores: u64,
-    /// The number of sessions that began from a log of an earlier life of the source.
+    /// The number of sessions that began from a log of an earlier life (incarnation) of the source's database.
     pub(crate) begins: u64,
-    /// The number of windows that a session did not store because the window's life differs from the session's life.
+    /// The number of windows that a session did not store because the window's life (the source's incarnation) differs
+    /// from the session's life.
     pub(crate) windows: u64,
-    /// The number of entries that the source did not store because the entry's life differs from the source's life.
+    /// The number of entries that the source did not store because the entry's life (the source's incarnation) differs
+    /// from the source's life.
     pub(crate) entries: u64,
 }
 
@@ -140,8 +143,8 @@ fn count(masks: &Masks) -> u64 {
     all
 }
 
-/// Returns a page of a source's feed, with the given life of the source. The call scans at most `limit` rows above
-/// `since` and at or below `goal`. The page has those of the scanned rows that are selected.
+/// Returns a page of a source's feed, marked with the given life (incarnation) of the source's database. The call scans
+/// at most `limit` rows above `since` and at or below `goal`. The page has those of the scanned rows that are selected.
 fn page(side: &PlainSide, life: u64, since: u64, goal: u64, limit: u64, picked: Picked) -> Rows {
     let mut leaves = [0; IDS];
     let mut hi = since;
@@ -163,7 +166,7 @@ fn page(side: &PlainSide, life: u64, since: u64, goal: u64, limit: u64, picked: 
     }
 }
 
-/// Returns those leaves of the given rows that a side lacks.
+/// Returns those leaves of the given rows that a side (the plain model of a peer) lacks.
 fn missing(side: &PlainSide, rows: &Rows) -> Rows {
     let mut leaves = [0; IDS];
     for number in 0..IDS {
@@ -172,7 +175,7 @@ fn missing(side: &PlainSide, rows: &Rows) -> Rows {
     Rows { leaves, ..*rows }
 }
 
-/// Whether a side covers each leaf of the given rows.
+/// Whether a side (the plain model of a peer) covers each leaf of the given rows.
 fn covers(side: &PlainSide, rows: &Rows) -> bool {
     let mut covers = true;
     for number in 0..IDS {
@@ -235,7 +238,7 @@ impl Sessions {
         end
     }
 
-    /// Returns the low water of a session.
+    /// Returns the low water of a session, which is the sequence up to which all windows of the session are done.
     fn low_water(&self, session: Session) -> u64 {
         let mut low = session.done.start;
         for window in &self.windows {
@@ -247,7 +250,7 @@ impl Sessions {
     }
 
     /// Returns the common checkpoint of a source's log and the target's sessions. The common checkpoint is the lesser
-    /// of both recorded sequences of the newest common session, or 0 if no session is common.
+    /// of the two recorded sequences of the newest session that both have, or 0 if they have no common session.
     fn agreed(&self, entries: &[Done]) -> u64 {
         for held in self.begun.iter().rev() {
             if let Some(place) = place_in(entries, held.done.session) {
@@ -258,8 +261,9 @@ impl Sessions {
         0
     }
 
-    /// Begins a session in the log's life, unless a session has the same id or the goal is below the session's start.
-    /// The session starts at the common checkpoint of the source's log and the target's sessions.
+    /// Begins a session with the log's life (the number of the source's incarnation), unless a session has the same id
+    /// or the goal is below the session's start. The session starts at the common checkpoint of the source's log and
+    /// the target's sessions.
     fn begin(&mut self, rt: &impl Abort, session: u128, log: &SourceLog, goal: u64, time: u64) {
         let start = self.agreed(&log.entries);
         if start <= goal && self.get(session).is_none() {
@@ -306,7 +310,7 @@ impl Sessions {
         })
     }
 
-    /// Counts a document of a session as refused if `row` is a ledger row, and otherwise as written.
+    /// Counts a document of a session as refused if the argument `row` has a ledger row, and otherwise as written.
     fn count(&mut self, rt: &impl Abort, session: u128, row: Option<Row>) {
         let place = self.place(session).unwrap_or(0);
         let held = self.begun.get_mut(place).expect(rt, "a session");
@@ -319,7 +323,7 @@ impl Sessions {
         }
     }
 
-    /// Whether a side covers each leaf of the window at an index.
+    /// Whether a side (the plain model of a peer) covers each leaf of the window at an index.
     fn is_covered(&self, rt: &impl Abort, window: usize, side: &PlainSide) -> bool {
         covers(side, &self.windows.get(window).expect(rt, "a window").rows)
     }
@@ -341,8 +345,8 @@ impl Sessions {
         held.done.found = held.done.found.saturating_add(count(&asked.leaves));
     }
 
-    /// Records a session. If `concludes` is true, the call records the session only if the low water is the goal.
-    /// Returns the session's log entry.
+    /// Records a session. If `concludes` is true, the call records the session only if the low water (the sequence up
+    /// to which all windows are done) is the session's goal. Returns the session's log entry.
     fn record(&mut self, session: u128, concludes: bool, time: u64) -> Option<Done> {
         let low = self.low_water(self.get(session)?);
         let place = self.place(session)?;
@@ -465,7 +469,8 @@ impl PlainWorld {
         }
     }
 
-    /// Returns the numbers of windows, requests, parcels, entries and logs in the message bag.
+    /// Returns the numbers of windows, requests, parcels, entries and logs in the message bag, which has the messages
+    /// in transit.
     pub(crate) fn sizes(&self) -> (usize, usize, usize, usize, usize) {
         (
             self.windows.len(),
@@ -481,7 +486,7 @@ impl PlainWorld {
         self.copies.len()
     }
 
-    /// Returns the source side if `is_source` is true, otherwise the target side.
+    /// Returns the plain model of the source if `is_source` is true, otherwise the plain model of the target.
     pub(crate) fn side(&mut self, is_source: bool) -> &mut PlainSide {
         if is_source {
             &mut self.source
@@ -554,7 +559,8 @@ impl PlainWorld {
         self.logs.push(log).expect(rt, "memory");
     }
 
-    /// Begins a session from a log in the message bag, if the log exists and `Sessions::begin` accepts the session.
+    /// Begins a session from a log in the message bag (the messages in transit), if the log exists and
+    /// `Sessions::begin` accepts the session.
     pub(crate) fn begin(
         &mut self,
         rt: &impl Abort,
@@ -581,7 +587,7 @@ impl PlainWorld {
         }
     }
 
-    /// Stores a window of the message bag in a session.
+    /// Stores a window from the message bag (the messages in transit) in a session.
     pub(crate) fn append(&mut self, rt: &impl Abort, session: u128, window: usize) {
         if let Some(rows) = self.windows.get(window) {
             self.sessions.append(rt, session, *rows);
@@ -619,15 +625,15 @@ impl PlainWorld {
         }
     }
 
-    /// Records or concludes a session, and puts the session's entry into the message bag.
+    /// Records or concludes a session, and puts the session's entry into the message bag (the messages in transit).
     pub(crate) fn record(&mut self, rt: &impl Abort, session: u128, concludes: bool, time: u64) {
         if let Some(done) = self.sessions.record(session, concludes, time) {
             self.entries.push(done).expect(rt, "memory");
         }
     }
 
-    /// Stores an entry in the source's log, if the entry has the source's life. If the log has an entry of the same
-    /// session with a greater recorded sequence, the call changes nothing.
+    /// Stores an entry in the source's log, if the entry has the source's current life (incarnation). If the log has an
+    /// entry of the same session with a greater recorded sequence, the call changes nothing.
     pub(crate) fn put_entry(&mut self, rt: &impl Abort, entry: usize) {
         if let Some(entry) = self.entries.get(entry) {
             if entry.life == self.log.life {

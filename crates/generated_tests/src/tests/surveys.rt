@@ -61,7 +61,8 @@ fn names(rt: &impl Abort, comparison: &Comparison, place: Option<usize>) -> bool
     }
 }
 
-/// Asserts that the comparison of a document agrees with the document's trees in the references of both sides.
+/// Asserts that a document's comparison agrees with the document's trees in the reference of the source and the
+/// reference of the target.
 fn says(
     rt: &impl Abort,
     alloc: Global,

@@ -1,5 +1,5 @@
-//! Compares the peers, the logs and the message bag of a world with the world's plain model, after random lists of
-//! steps.
+//! Compares the peers, the logs and the message bag (the messages in transit) of a world with the world's plain model,
+//! after random lists of steps.
 use crate::tests::checks::holds;
 use crate::tests::choices::{all_or_some, chosen};
 use crate::tests::feeds::{body, document_by_chance, id};
