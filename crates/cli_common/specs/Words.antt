@@ -1,5 +1,5 @@
--- The parts of a command line, and their parsed values, as specified in docs/PROFILE.md, "Options" and "Options of
--- `couch_lines`".
+-- Defines the parts of a command line and their parsed values, as specified in docs/PROFILE.md, "Options" and "Options
+-- of `couch_lines`".
 use Rattle.std.specs.Prelude.{◌≡◌, ℕ, List, Bool, Option, Some, None, codes, true, false}
 use Rattle.clap.specs.Words.{App, Rule, first_of, first_value, found_of, matches_of, new_app, new_rule, one_of, one_text}
 use Rattle.clap.specs.Simple.{on_top}
