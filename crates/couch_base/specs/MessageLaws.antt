@@ -54,7 +54,7 @@ all_wanted ds (r ∷ rows) h = wanted_first r.id (missing (tree_of ds r.id) r.le
 pub IsAsked-revs_diff : (db : DatabaseValue) (w : WindowValue) → IsWindow w → IsAsked (revs_diff db w)
 IsAsked-revs_diff db w window = record { distinct = each_wanted db.docs w.rows window.distinct; docs = all_wanted db.docs w.rows window.rows }
 
--- ---- every requested revision is in a document of the parcel, or gone
+-- ---- every requested revision is in a document of the parcel, or is listed as gone
 
 any_opened : (id : Id) (t : TreeValue) (leaf r : RevId) (xs : List RevId) → is_among leaf xs ≡ true → is_among r (ancestors t leaf) ≡ true → list_any (brings id r) (map (leaf_document id t) xs) ≡ true
 any_opened id t leaf r [] h above = absurd (false≢true h)

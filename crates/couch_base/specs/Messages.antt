@@ -52,8 +52,8 @@ coded_parcel =
 
 -- ---- requesting
 
--- The requests `others` for other documents, preceded by a request for the given revisions of document `id` if there
--- are any.
+-- The list `others` of requests, with a request for the revisions of document `id` put first if the list of revisions
+-- is not empty.
 abbrev pub want_first : Id → List RevId → List WantedValue → List WantedValue
 want_first id [] others = others
 want_first id (r ∷ revs) others = record { id = id; revs = r ∷ revs } ∷ others
@@ -69,7 +69,7 @@ revs_diff db w = record { lo = w.lo; hi = w.hi; docs = wanted db.docs w.rows }
 
 -- ---- fetching
 
--- The body of revision r in tree t, or the empty list if r has no content.
+-- The body of revision r in tree t, or the empty list if t stores no content of r.
 abbrev pub body_at : TreeValue → RevId → List ℕ
 body_at t r = option_map_or (λ (b : ContentValue). b.body) (get t.contents r) []
 
@@ -107,7 +107,7 @@ open_revs db a = record { asked = a; docs = fetched db.docs a.docs; gone = gone_
 
 -- ---- invariants
 
--- At least one revision of the document is requested, and no revision is requested twice.
+-- The request w names at least one revision of the document, and names no revision twice.
 pub record IsWanted (w : WantedValue) : Type 0 where
   pub some : 0 < length w.revs
   pub distinct : EachOnce (eq_by_cmp rev_cmp) w.revs
@@ -121,7 +121,7 @@ pub record IsAsked (a : AskedValue) : Type 0 where
 abbrev pub brings : Id → RevId → Document → Bool
 brings id r d = bytes_eq d.id id && is_among r d.ancestry
 
--- Whether the gone revision g is revision r of document `id`.
+-- Whether the gone revision g, which is a pair of a document id and a revision, is revision r of document `id`.
 abbrev pub is_rev_of : Id → RevId → Id × RevId → Bool
 is_rev_of id r g = bytes_eq g.0 id && eq_by_cmp rev_cmp r g.1
 

@@ -1,4 +1,5 @@
--- This file defines the effect of storing a document, as specified in docs/PROFILE.md, "Merging" and "Sequences".
+-- Defines the result of storing a document, and the database after the document was stored, as specified in
+-- docs/PROFILE.md, "Merging" and "Sequences".
 use Rattle.std.specs.Prelude.{◌≡◌, ℕ, ◌+◌, Bool, true, false, IsTrue, nat_lt, List, Result, Ok, Err, if◌then◌else◌}
 use Rattle.rev_tree.specs.Content.{ContentValue}
 use Rattle.rev_tree.specs.Tree.{merged, merge_answer}
@@ -31,7 +32,7 @@ abbrev pub put_answer : DatabaseValue → Document → Result Put BaseFault
 put_answer db d =
     put_told (merge_answer (tree_of db.docs d.id) d.ancestry) (nat_lt db.update_seq most) (db.update_seq + 1)
 
--- Whether a put with the given result changes the database and so takes a sequence.
+-- Whether a put with the given result changes the database and therefore takes a sequence.
 abbrev pub is_changed : Result Put BaseFault → Bool
 is_changed (Ok (answers.Changed seq)) = true
 is_changed (Ok answers.Same) = false

@@ -59,8 +59,8 @@ above a rows = filter (λ e. nat_lt a e.0) rows
 abbrev pub live_upto : List (Id × Kept) → ℕ → List (ℕ × ℕ) → List (ℕ × ℕ)
 live_upto docs b rows = filter (λ e. nat_le e.0 b) (live docs rows)
 
--- The rows of a database's index after a change of one of n documents. The index of n documents keeps all rows if it
--- has at most 2 n + 1 rows, otherwise only the live rows.
+-- The rows that the index of a database with n documents has after a change. The database keeps all rows of the index
+-- if the index has at most 2 n + 1 rows, otherwise only the live rows.
 abbrev pub swept : List (Id × Kept) → List (ℕ × ℕ) → List (ℕ × ℕ)
 swept docs rows = if nat_lt (length docs) (length rows / 2) then live docs rows else rows
 
@@ -155,7 +155,8 @@ Sets g h id k = (q : Id) → h q ≡ cond (bytes_eq id q) (Some k) (g q)
 abbrev pub feed_without : Id → List (ℕ × Id) → List (ℕ × Id)
 feed_without id index = filter (λ e. not (bytes_eq e.1 id)) index
 
--- The effect on the table of a database if one document changes. The change takes the next sequence.
+-- The table `new` of a database results from the table `old` by a change of one document's tree. The change of the
+-- document takes the next sequence of the database.
 pub record IsWritten (old new : TableValue) (id : Id) (tree : TreeValue) : Type 0 where
   pub kept : IsKept new
   pub value : (uuid life : ℕ) → database_of uuid life new ≡ with_tree (database_of uuid life old) id tree
