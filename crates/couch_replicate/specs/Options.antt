@@ -42,27 +42,28 @@ AreSettings text number s =
     × IsNumber (number (codes "workers")) 4 s.workers × IsNumber (number (codes "batch")) 500 s.batch
     × IsFlag (number (codes "quiet")) s.quiet
 
--- The settings, and the Booleans for explanations and progress on standard error, have the values of the options.
+-- The settings of o, and the Booleans of o for explanations and progress on standard error, have the values that the
+-- command line gives to the options.
 abbrev pub AreOptions : (List ℕ → Option (List ℕ)) → (List ℕ → Option (List ℕ)) → Options → Type 0
 AreOptions text number o = AreSettings text number o.settings
     × IsFlag (number (codes "explain")) o.explain × IsFlag (number (codes "progress")) o.progress
 
--- The options have the values that the arguments of a command line give.
+-- The options o have the values that the command line `words` gives.
 abbrev pub Says : List (List ℕ) → Options → Type 0
 Says words o = AreOptions (λ id. first_of id (matches_of options words)) (λ id. one_of id (matches_of options words)) o
 
 -- ---- arguments without settings
 
--- The reason why the texts of the options give no settings. The reason is one of three: texts that no settings match, a
--- positional argument, or a failed allocation.
+-- The reason why no settings result from the texts of the options. The reason is one of three: texts that no settings
+-- match, a positional argument, or a failed allocation.
 abbrev pub SetNothing : (List ℕ → Option (List ℕ)) → (List ℕ → Option (List ℕ)) → NoSettings → Type 0
 SetNothing text number (Words error) = ⊥
 SetNothing text number NoNumber = (s : Settings) → AreSettings text number s → ⊥
 SetNothing text number File = text (codes "file") ≡ None → ⊥
 SetNothing text number Memory = Unit {0}
 
--- The reason why the arguments give no options. The reason is one of four: an error of `clap`, arguments that no
--- options match, a positional argument, or a failed allocation.
+-- The reason why no options result from the arguments `words`. The reason is one of four: an error of `clap`, arguments
+-- that no options match, a positional argument, or a failed allocation.
 abbrev pub Refuses : List (List ℕ) → NoSettings → Type 0
 Refuses words (Words error) = HasKind (fault_of options words) error
 Refuses words NoNumber = (o : Options) → Says words o → ⊥
