@@ -24,7 +24,7 @@ stays m =
 abbrev pub goes : List ℕ → Bool
 goes m = not (stays m)
 
--- The member of an envelope that holds the wrapped members, if there are any. The value of this member `whole` is one
+-- The member of an envelope that holds the wrapped members, if there are any. The value of the member `whole` is one
 -- string, which has the texts of the wrapped members with commas between them.
 abbrev pub whole_of : List (List ℕ) → List (List ℕ)
 whole_of [] = []
@@ -33,8 +33,8 @@ whole_of (m ∷ ms) = (whole_name ++ 58 ∷ quoted (joined (m ∷ ms))) ∷ []
 abbrev pub envelope_of : List ℕ → List ℕ
 envelope_of x = object_of (filter stays (members_of x) ++ whole_of (filter goes (members_of x)))
 
--- Whether an envelope may have a member with the given name and value. For an envelope's members `_deleted` and
--- `whole`, the type of the value is checked, and for other members only the name.
+-- Whether an envelope may have a member with the given name and value. For the members `_deleted` and `whole` of an
+-- envelope, the result depends on the name and the type of the value, and for other members on the name only.
 abbrev pub may_stand : List ℕ → Json → Bool
 may_stand name j =
     cond (bytes_eq name (codes "_id") || bytes_eq name (codes "_rev") || bytes_eq name (codes "_revisions")) true
