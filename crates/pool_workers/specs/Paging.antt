@@ -1,5 +1,5 @@
--- The windows that a run of the pool has stored so far, as specified in docs/PROFILE.md, "Goal and windows" and "The
--- pool".
+-- Defines statements about the windows that a run of the pool has stored so far, as specified in docs/PROFILE.md, "Goal
+-- and windows" and "The pool".
 use Rattle.std.specs.Prelude.{◌≡◌, ℕ, ◌+◌, ◌<◌, Bool, true, List, [], length, Option, Some, None}
 use Rattle.rev_tree.specs.declared.origin.SessionId.{SessionId}
 use Rattle.couch_base.specs.Lists.{Among}

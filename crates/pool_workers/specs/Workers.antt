@@ -1,4 +1,4 @@
--- What a worker of a run knows between two messages, as specified in docs/PROFILE.md, "The pool".
+-- Defines what a worker of a run knows between two messages, as specified in docs/PROFILE.md, "The pool".
 use Rattle.std.specs.Prelude.{◌≡◌, ◌+◌, ℕ, List, [], ◌∷◌, ◌++◌, map, length, Option, None, option_to_list}
 use Rattle.crossbeam_channel.specs.Claims.{view}
 use Rattle.progress_board.specs.declared.board.Board.{Board}
@@ -29,7 +29,7 @@ FetcherKnows in_hand f =
     × (f.stopped ≡ None → (f.fetched ≡ amounts (view f.parcels).sent)
     × ((view f.windows).taken ≡ names (view f.parcels).sent ++ in_hand))
 
--- What a fetcher knows between counting a parcel and sending it.
+-- What a fetcher knows after it has counted a parcel, and before it sends the parcel.
 abbrev pub HasCounted : {S : Type 0} → ℕ × ℕ → Fetcher S → Type 0
 HasCounted x f =
     (view f.windows ≡ window_view 1 0 0 (view f.windows).taken)
