@@ -1,4 +1,5 @@
--- Fronts of windows and their low water, as specified in docs/PROFILE.md, "Windows and low water".
+-- Defines fronts, which are lists of adjacent windows, and their low water, as specified in docs/PROFILE.md, "Windows
+-- and low water".
 use Rattle.std.specs.Prelude.{◌≡◌, ℕ, ◌<◌, ◌^◌, ◌+◌, Bool, false, true, ◌&&◌, ◌==◌, nat_le, if◌then◌else◌, List, [], ◌∷◌, ◌++◌, Result, Ok, Err, map, take_while, refl}
 use Rattle.std.specs.Coded.{Coded, code_by, coded×, coded_ℕ, coded_bool, coded_list}
 use Rattle.std.specs.List.{list_any, list_all}
@@ -98,7 +99,7 @@ range_count f = run_count false (above_low_water f.windows)
 abbrev pub no_windows : ℕ → FrontValue
 no_windows start = record { start = start; windows = [] }
 
--- Front f after a window from the end of f to `hi` is appended. The new window is not done.
+-- Front f with a window from the end of f to `hi` appended. The new window is not done.
 abbrev pub appended : FrontValue → ℕ → FrontValue
 appended f hi = record f { windows = f.windows ++ record { hi = hi; done = false } ∷ [] }
 
@@ -107,7 +108,7 @@ appended f hi = record f { windows = f.windows ++ record { hi = hi; done = false
 abbrev pub append_answer : FrontValue → ℕ → Result (Unit {0}) FrontFault
 append_answer f hi = if nat_le hi (end_of f) then Err (faults.NotRising (end_of f)) else Ok tt
 
--- The given adjacent windows, the first of which begins at `from`, after the window (lo, hi] is marked as done.
+-- The given adjacent windows with the window (lo, hi] marked as done. The first of the given windows begins at `from`.
 abbrev pub finished_from : ℕ → List FrontWindow → ℕ → ℕ → List FrontWindow
 finished_from from [] lo hi = []
 finished_from from (w ∷ ws) lo hi =

@@ -85,7 +85,7 @@ bounds-finished f lo hi = bounds-finished_from f.start f.windows lo hi
 pub is_done-finished : (f : FrontValue) (lo hi a b : ℕ) → is_done (finished f lo hi) a b ≡ (is_done f a b || (is_window f lo hi && ((lo == a) && (hi == b))))
 is_done-finished f lo hi a b = done-finished_from f.start f.windows lo hi a b
 
--- A window that is done after a call of `finish` was done before, or is the finished window.
+-- A window that is done after a call of `finish` was done before the call, or is the window that the call finished.
 pub is_done-finished_cases : (f : FrontValue) (lo hi a b : ℕ) → is_done (finished f lo hi) a b ≡ true → (is_done f a b ≡ true) ⊎ ((lo ≡ a) × (hi ≡ b))
 is_done-finished_cases f lo hi a b done =
     elim (or_cases (is_done f a b) (is_window f lo hi && ((lo == a) && (hi == b))) (sym (is_done-finished f lo hi a b) ∙ done)) [
