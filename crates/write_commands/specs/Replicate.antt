@@ -1,4 +1,4 @@
--- The command `replicate`, as specified in docs/PROFILE.md, "Command lines", "Order of checks" and "Answers".
+-- Defines the command `replicate`, as specified in docs/PROFILE.md, "Command lines", "Order of checks" and "Answers".
 use Rattle.std.specs.Prelude.{◌≡◌, ◌⊎◌, ◌<◌, ◌≤◌, ℕ, Bool, true, false, List, [], ◌∷◌, ◌++◌, codes, decimal, Option, Some, None, unwrap_or, option_map, Result, Ok, Err}
 use Rattle.serde_json.specs.Data.{Data}
 use Rattle.serde_json.specs.Find.{as_bool}
@@ -180,9 +180,9 @@ abbrev pub ending_of_watched : Result Watched PoolFault → Result Ending Refusa
 ending_of_watched (Ok watched) = Ok (Shown watched)
 ending_of_watched (Err fault) = ending_of_run (Err fault)
 
--- How a replication ended, or the error with which it failed. One thread replicates if the first argument of `EndsBy`
--- is true. If the first argument of `EndsBy` is false, the pool replicates, with a board if the second argument is
--- true.
+-- How a replication ended, or the error with which it failed. `EndsBy true` describes a replication by one thread.
+-- `EndsBy false true` describes a replication by the pool with a board, and `EndsBy false false` a replication by the
+-- pool without a board.
 abbrev pub EndsBy : Bool → Bool → State → List ℕ → List ℕ → PeerValue → PeerValue → Plan → Result Ending Refusal → State
     → Type 0
 EndsBy true progress old source target s t plan ending new =
