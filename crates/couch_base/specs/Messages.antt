@@ -1,5 +1,5 @@
--- Requests for missing revisions, and fetched parcels, as specified in docs/PROFILE.md, "Missing revisions" and
--- "Fetching", and in CouchDB, "Replication Protocol", `_revs_diff`, and a fetch with `latest`.
+-- Defines requests for missing revisions and fetched parcels, as specified in docs/PROFILE.md, "Missing revisions" and
+-- "Fetching", and in CouchDB, "Replication Protocol", `_revs_diff` and fetches with `latest`.
 use Rattle.std.specs.Prelude.{◌≡◌, ℕ, ◌<◌, Bool, true, false, ◌&&◌, ◌||◌, List, [], ◌∷◌, ◌++◌, map, length, Option, refl}
 use Rattle.std.specs.Coded.{Coded, code_by, coded×, coded_ℕ, coded_list}
 use Rattle.std.specs.List.{list_any, list_all, AllByRecursion}
@@ -73,7 +73,7 @@ revs_diff db w = record { lo = w.lo; hi = w.hi; docs = wanted db.docs w.rows }
 abbrev pub body_at : TreeValue → RevId → List ℕ
 body_at t r = option_map_or (λ (b : ContentValue). b.body) (get t.contents r) []
 
--- A leaf of document `id` as a document, with its known ancestry, its deleted flag and its body.
+-- The document that consists of a leaf of document `id`, with the leaf's known ancestry, deleted flag and body.
 abbrev pub leaf_document : Id → TreeValue → RevId → Document
 leaf_document id t leaf =
     record { id = id; ancestry = ancestors t leaf; deleted = is_deleted t leaf; body = body_at t leaf }

@@ -47,8 +47,8 @@ PutGives result expected = result ≡ expected
 abbrev pub content_of : Bool → List ℕ → ContentValue
 content_of deleted body = record { deleted = deleted; body = body }
 
--- The database after a put of document d. If the merge of a put changes the document's tree and the database has an
--- unused sequence, the document has the merged tree after the put.
+-- The database after a put of document d. The document has the merged tree after the put if the merge changes the
+-- document's tree and the database has an unused sequence.
 abbrev pub after_put : DatabaseValue → Document → Origin → DatabaseValue
 after_put db d o =
     if is_changed (put_answer db d) then with_tree db d.id

@@ -1,6 +1,6 @@
--- The stored form of a database: a table of documents by id, and an index of their positions by sequence. Each change
--- of a document appends a row to the index of the document's database. A row of a database's index is live if its
--- document has no later change. The live rows of a database's index form the changes feed.
+-- Defines the stored form of a database: a table of documents by id, and an index of their positions by sequence. Each
+-- change of a document appends a row to the index of the document's database. A row of a database's index is live if
+-- its document has no later change. The live rows of a database's index form the changes feed.
 use Rattle.std.specs.Prelude.{◌≡◌, ℕ, ◌+◌, ◌*◌, ◌/◌, ◌<◌, ◌≤◌, ◌==◌, nat_lt, nat_le, Bool, false, not, List, [], ◌∷◌, cond, if◌then◌else◌, map, filter, length, slice_get, unwrap_or, Option, Some, None, IfSome, refl}
 use Rattle.std.specs.Coded.{Coded, code_by, coded×, coded_ℕ, coded_list}
 use Rattle.std.specs.Option.{option_map, option_map_or}
@@ -68,7 +68,7 @@ swept docs rows = if nat_lt (length docs) (length rows / 2) then live docs rows 
 abbrev pub ArePlaces : ℕ → List (ℕ × ℕ) → Type 0
 ArePlaces n index = (e : ℕ × ℕ) → Among e index → e.1 < n
 
--- The document id at sequence s of the index, if there is one.
+-- The document id of the index entry with the sequence s, if the index has such an entry.
 abbrev pub at_seq : ℕ → List (ℕ × Id) → Option Id
 at_seq s index = lookup (is_at (nat_cmp s)) index
 
