@@ -1,4 +1,4 @@
--- The options of `couch_replicate`, and the values of the options, as specified in docs/PROFILE.md, "Options".
+-- Defines the options of `couch_replicate` and their values, as specified in docs/PROFILE.md, "Options".
 use Rattle.std.specs.Prelude.{◌≡◌, ◌^◌, ◌<◌, ℕ, List, Bool, Option, Some, None, codes, option_map, string_bytes, true, false}
 use Rattle.std.specs.Str.Parse.{without_leading_plus, IsNumeral, digits_value}
 use Rattle.clap.specs.Words.{App, HasKind, Rule, fault_of, first_of, one_of, matches_of, new_rule, with_rule}
@@ -34,7 +34,7 @@ IsNumber (Some text) default n =
     IsNumeral 10 (without_leading_plus text) × (digits_value 10 (without_leading_plus text) < 2 ^ 64)
     × (n ≡ digits_value 10 (without_leading_plus text))
 
--- The settings have the values that the options' texts give, and the command line has no positional argument.
+-- The settings s have the values that the texts of the options give, and the command line has no positional argument.
 abbrev pub AreSettings : (List ℕ → Option (List ℕ)) → (List ℕ → Option (List ℕ)) → Settings → Type 0
 AreSettings text number s =
     (text (codes "file") ≡ None) × (option_map string_bytes s.deny ≡ text (codes "deny")) × IsNumber (number (codes "seed")) 0 s.seed
