@@ -1,5 +1,5 @@
--- Relations between the text of a document and the text of the document's envelope, as specified in docs/PROFILE.md,
--- "Documents in envelopes".
+-- Defines relations between the text of a document and the text of the document's envelope, as specified in
+-- docs/PROFILE.md, "Documents in envelopes".
 use Rattle.std.specs.Prelude.{◌≡◌, ℕ, ◌+◌, ◌&&◌, ◌||◌, ◌==◌, List, [], ◌∷◌, ◌++◌, true, false, Some}
 use Rattle.std.specs.List.{filter}
 use Rattle.doc_envelope.specs.Texts.{EndsString}

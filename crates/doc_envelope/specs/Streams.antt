@@ -12,7 +12,7 @@ is_streamable b = nat_le 32 b && nat_lt b 127 && not (b == 34) && not (b == 92)
 abbrev pub IsRun : List ℕ → Type 0
 IsRun r = list_all is_streamable r ≡ true
 
--- The mode after a text, if its first byte has mode m.
+-- The mode of the byte that follows a text, if the first byte of the text has the mode m.
 unfoldable pub mode_after : Mode → List ℕ → Mode
 mode_after m [] = m
 mode_after m (b ∷ t) = mode_after (mode_behind m b) t
