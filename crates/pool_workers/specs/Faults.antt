@@ -22,7 +22,7 @@ IsLateOn may_fill may_stop fault = Unit {0}
 
 -- ---- errors from workers' halts
 
--- The errors with which a worker's call on the target of a run may fail.
+-- The errors with which a worker's call on the run's target may fail.
 abbrev pub IsStepFault : TargetFault → Type 0
 IsStepFault (refusals.Gap expected) = Unit {0}
 IsStepFault refusals.ForeignParcel = Unit {0}

@@ -49,8 +49,8 @@ WriterKnows in_hand w =
     × (w.stopped ≡ None → (w.got + length in_hand ≡ length (view w.parcels).got)
     × (w.share.amount + amounts in_hand ≡ amounts (view w.parcels).got))
 
--- The writer's seat shows the documents of the writer's share of the ledger, in addition to the documents that the seat
--- `given` shows (`HaveShown`).
+-- The writer's seat shows the documents that the seat `given` shows, and in addition the documents of the writer's
+-- share of the ledger (`HaveShown`).
 abbrev pub WriterShows : {S L : Type 0} → Option Board → Option BoardSeat → Writer S L → Type 0
 WriterShows board given w =
     AreBack board (option_to_list given) (option_to_list w.seat)

@@ -12,8 +12,8 @@ use rev_tree::SessionId;
 use std::alloc::{AllocError, Global};
 use std::marker::PhantomData;
 
-/// An empty database if the update sequence of the given target was 0. A target with the update sequence 0 has no
-/// documents. Otherwise `None`.
+/// The field `none` is an empty database if the update sequence of the given target was 0. A target with the update
+/// sequence 0 has no documents. If the update sequence was not 0, the field is `None`.
 #[derive(Drop)]
 pub struct GivenTarget<F: WriteFilter, T: TargetBrand<F>> {
     none: Option<Database>,

@@ -227,8 +227,9 @@ impl<F: WriteFilter, S: SourceBrand, T: TargetBrand<F>, L: Ledger, G, R: Wait> C
         }
     }
 
-    /// Reads windows from a start until the goal or the plan's limit is reached, stores each window at the target, and
-    /// sends each window. The call reads one window first, then two, then four, and then eight windows at a time.
+    /// Reads windows from a start until the run's goal (a sequence) or the plan's limit is reached, stores each window
+    /// at the target, and sends each window. The call reads one window first, then two, then four, and then eight
+    /// windows at a time.
     pub fn read_windows(&self, start: u64, windows: &mut WindowPass<S>) -> Option<Halt>
         requires source { S.source ≡ self.now.source.now.1.db }
         requires plan { S.plan ≡ self.now.plan.now }
