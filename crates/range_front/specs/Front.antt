@@ -78,7 +78,7 @@ end_of f = end_from f.start f.windows
 abbrev pub low_water : FrontValue → ℕ
 low_water f = end_from f.start (take_while (λ w. w.done) f.windows)
 
--- The windows above the low water.
+-- The windows of a front above the front's low water.
 abbrev pub above_low_water : List FrontWindow → List FrontWindow
 above_low_water [] = []
 above_low_water (w ∷ ws) = if w.done then above_low_water ws else w ∷ ws
