@@ -211,8 +211,8 @@ ReplicatesChosen old ask both (Ok chosen) told new =
     × (told ≡ told_of (replicated_text (plan_of old ask.options chosen).session ending))
 ReplicatesChosen old ask both (Err refusal) told new = Refuses refusal (with_session old ask.options) told new
 
--- The result of `replicate` for two existing databases. A generated session id is drawn before the selection is built,
--- and building the selection may run out of memory.
+-- The result of `replicate` for two existing databases. If the line gives no session id, the line takes the next
+-- generated id before the selection is built. Building the selection may run out of memory.
 abbrev pub ReplicatesBoth : State → ReplicateAsk → PeerValue × PeerValue → Told → State → Type 0
 ReplicatesBoth old ask both told new =
     (chosen : Result Choice Refusal) × GivesOrMemory chosen (choice_given ask.doc_ids)
@@ -233,7 +233,7 @@ ReportsReplication old ask told new = ReplicatesFound old ask (both_of old ask) 
 
 -- ---- the guarantee of `replicate`, as specified in docs/PROFILE.md, "Tied databases"
 
--- The guarantee of a session that reached the session's goal and recorded sequence n. Sequence n is the source's update
+-- The guarantee for a session that reached its goal and recorded sequence n. Sequence n is the source's update
 -- sequence, and the target covers each leaf of the source's selected feed.
 abbrev pub CoversIfDone : State → List ℕ → List ℕ → Choice → Ending → Type 0
 CoversIfDone s source target chosen (Done report) = CoversUpTo s source target chosen report.recorded
