@@ -1,6 +1,6 @@
 -- Defines the stored form of a database: a table of documents by id, and an index of their positions by sequence. Each
 -- change of a document appends a row to the index of the document's database. A row of a database's index is live if
--- its document has no later change. The live rows of a database's index form the changes feed.
+-- the row's document has no later change. The live rows of a database's index form the changes feed.
 use Rattle.std.specs.Prelude.{◌≡◌, ℕ, ◌+◌, ◌*◌, ◌/◌, ◌<◌, ◌≤◌, ◌==◌, nat_lt, nat_le, Bool, false, not, List, [], ◌∷◌, cond, if◌then◌else◌, map, filter, length, slice_get, unwrap_or, Option, Some, None, IfSome, refl}
 use Rattle.std.specs.Coded.{Coded, code_by, coded×, coded_ℕ, coded_list}
 use Rattle.std.specs.Option.{option_map, option_map_or}

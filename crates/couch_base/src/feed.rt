@@ -1,4 +1,4 @@
-//! Iterates over the changes feed without copying its documents.
+//! Iterates over the changes feed without copying the documents of the feed.
 ghost use Rattle.std.specs.Prelude.{◌≡◌, ◌∷◌, [], None, IfOk, IfSome};
 
 use crate::table::Table;
