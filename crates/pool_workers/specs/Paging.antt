@@ -20,7 +20,7 @@ AllowsMore None n more = more ≡ None
 AllowsMore (Some stop_after) n None = ⊥
 AllowsMore (Some stop_after) n (Some more) = n + more ≡ stop_after
 
--- If the number of windows is limited, `less` is `more` minus one.
+-- If the number `more` of further windows is limited, `less` is `more` minus one.
 abbrev pub IsOneLess : Option ℕ → Option ℕ → Type 0
 IsOneLess None less = less ≡ None
 IsOneLess (Some more) None = ⊥
