@@ -6,8 +6,8 @@ use Rattle.std.specs.List.{list_any, list_all}
 use Rattle.range_front.specs.declared.fault.FrontFault.{FrontFault}
 use Rattle.range_front.specs.declared.fault.FrontFault.TheVariants as faults
 
--- A window of a front: its upper bound, and whether the window is done. A window of a front begins at the end of the
--- previous window, or at the front's start if it is the first window.
+-- A window of a front: its upper bound, and whether the window is done. The first window of a front begins at the
+-- front's start, and each later window begins at the end of the previous window.
 pub record FrontWindow : Type 0 where
   pub hi : ℕ
   pub done : Bool
@@ -65,16 +65,17 @@ is_done f lo hi = list_any (λ s. (s.lo == lo) && ((s.hi == hi) && s.done)) (spa
 abbrev pub all_done : FrontValue → Bool
 all_done f = list_all (λ w. w.done) f.windows
 
--- The end of the last of the given windows, or `start` if there are no windows.
+-- The upper bound of the last of the given windows, or `start` if there are no windows.
 abbrev pub end_from : ℕ → List FrontWindow → ℕ
 end_from start [] = start
 end_from start (w ∷ ws) = end_from w.hi ws
 
--- The end of the last window of front f, or the start if f has no windows.
+-- The upper bound of the last window of front f, or the start of f if f has no windows.
 abbrev pub end_of : FrontValue → ℕ
 end_of f = end_from f.start f.windows
 
--- The end of the longest prefix of windows that are all done, or the start if the first window is not done.
+-- The upper bound of the last window in the longest prefix of windows that are all done, or the start if the first
+-- window is not done.
 abbrev pub low_water : FrontValue → ℕ
 low_water f = end_from f.start (take_while (λ w. w.done) f.windows)
 
