@@ -51,11 +51,11 @@ live docs rows = filter (is_live docs) rows
 abbrev pub feed_of : List (Id × Kept) → List (ℕ × ℕ) → List (ℕ × Id)
 feed_of docs rows = named (keys_of docs) (live docs rows)
 
--- The rows of a database's index above sequence a.
+-- The rows of a database's index with sequences above a.
 abbrev pub above : ℕ → List (ℕ × ℕ) → List (ℕ × ℕ)
 above a rows = filter (λ e. nat_lt a e.0) rows
 
--- The live rows of a database's index at or below sequence b.
+-- The live rows of a database's index with sequences of at most b.
 abbrev pub live_upto : List (Id × Kept) → ℕ → List (ℕ × ℕ) → List (ℕ × ℕ)
 live_upto docs b rows = filter (λ e. nat_le e.0 b) (live docs rows)
 
