@@ -190,7 +190,7 @@ impl<F: WriteFilter, S: SourceBrand, T: TargetBrand<F>, L: Ledger, G: Gate, R: W
         Ok(fetched)
     }
 
-    /// Fetches one window and sends its parcel.
+    /// Fetches one window, and sends the parcel of this window.
     fn fetch(&self, fetcher: &mut Fetcher<S>, number: u64, page: Paged<S>)
         requires source { S.source ≡ self.now.source.now.1.db }
         requires seat { IsSeatAt (sends_on self.now.channels.now.to_writers) fetcher.old.parcels }
