@@ -44,13 +44,14 @@ abbrev pub MayFill : Option Board → Type 0
 MayFill None = ⊥
 MayFill (Some b) = Unit {0}
 
--- If there is a board, all seats of the list are worker seats of the board. Without a board, the list has no seats.
+-- If there is a board, all seats of the list are worker seats of the board. If there is no board, the list has no
+-- seats.
 abbrev pub AreSeated : Option Board → List BoardSeat → Type 0
 AreSeated None seats = seats ≡ []
 AreSeated (Some b) seats = All (WorksAt b) seats
 
 -- If there is a board, all seats of the list are worker seats of the board. The number of seats in the list, plus the
--- number `out` of seats in use, is at least the number of workers. Without a board, the list has no seats.
+-- number `out` of seats in use, is at least the number of workers. If there is no board, the list has no seats.
 abbrev pub AreSeats : Option Board → ℕ → ℕ → List BoardSeat → Type 0
 AreSeats None out workers seats = seats ≡ []
 AreSeats (Some b) out workers seats = (workers ≤ length seats + out) × All (WorksAt b) seats
@@ -74,7 +75,7 @@ IsSeated None None = Unit {0}
 IsSeated (Some b) (Some s) = WorksAt b s
 IsSeated board seat = ⊥
 
--- If there is a board, seat t is seat s after n more documents were read. Without a board, seat t equals seat s.
+-- If there is a board, seat t is seat s after n more documents were read. If there is no board, seat t equals seat s.
 abbrev pub HasRead : Option Board → ℕ → Option BoardSeat → Option BoardSeat → Type 0
 HasRead None n s t = t ≡ s
 HasRead (Some b) n (Some s) (Some t) =
@@ -91,7 +92,8 @@ abbrev pub HasRoom : Option Board → ℕ → Option BoardSeat → Type 0
 HasRoom (Some b) n (Some s) = s.settled + n ≤ s.read
 HasRoom board n seat = Unit {0}
 
--- If there is a board, seat t is seat s after z - a more documents were settled. Without a board, seat t equals seat s.
+-- If there is a board, seat t is seat s after z - a more documents were settled. If there is no board, seat t equals
+-- seat s.
 abbrev pub HasSettled : Option Board → ℕ → ℕ → Option BoardSeat → Option BoardSeat → Type 0
 HasSettled None a z s t = t ≡ s
 HasSettled (Some b) a z (Some s) (Some t) =
@@ -99,7 +101,7 @@ HasSettled (Some b) a z (Some s) (Some t) =
 HasSettled (Some b) a z s t = ⊥
 
 -- If there is a board, seat t is seat s after z - a more documents were settled. The read counter of t is at least the
--- read counter of s. If the writer was not stopped, seat t shows z - a more read documents than seat s. Without a
+-- read counter of s. If the writer was not stopped, seat t shows z - a more read documents than seat s. If there is no
 -- board, seat t equals seat s.
 abbrev pub HasWritten : Option Board → ℕ → ℕ → Option Halt → Option BoardSeat → Option BoardSeat → Type 0
 HasWritten None a z stopped s t = t ≡ s

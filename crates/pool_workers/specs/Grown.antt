@@ -15,8 +15,8 @@ use Rattle.pool_workers.specs.Paging.{KeepsPages}
 abbrev pub IsAnswerOf : DatabaseValue → ParcelValue → Type 0
 IsAnswerOf source p = p ≡ open_revs source p.asked
 
--- The target has the run's session. The life of the run's session is the source's life, and the session's goal is the
--- source's update sequence.
+-- The target's sessions include the session of the run. The life of the run's session is the source's life, and the
+-- session's goal is the source's update sequence.
 abbrev pub HasRun : DatabaseValue → SessionId → List SessionValue → Type 0
 HasRun source run sessions =
     (s : SessionValue) × (session_in sessions run ≡ Some s) × (s.life ≡ source.life) × (s.goal ≡ source.update_seq)
