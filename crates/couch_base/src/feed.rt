@@ -48,7 +48,7 @@ impl<'a> Change<'a> {
     }
 }
 
-/// An iterator over a part of the changes feed, by rising sequence. It copies no documents.
+/// An iterator over a part of the changes feed, by rising sequence. The iterator copies no documents.
 #[derive(Drop)]
 pub struct Feed<'a> {
     table: &'a Table,
