@@ -1,4 +1,4 @@
--- The exit status of a program that runs nothing because of its command line, as specified in docs/PROFILE.md,
+-- Defines the exit status of a program that runs nothing because of its command line, as specified in docs/PROFILE.md,
 -- "Options" and "Options of `couch_lines`".
 use Rattle.std.specs.Prelude.{ℕ}
 use Rattle.clap.specs.declared.error.kind.ErrorKind.{ErrorKind}

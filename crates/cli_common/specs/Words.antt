@@ -1,5 +1,5 @@
--- The parts of a command line, and their parsed values, as specified in docs/PROFILE.md, "Options" and "Options of
--- `couch_lines`".
+-- Defines the parts of a command line and their parsed values, as specified in docs/PROFILE.md, "Options" and "Options
+-- of `couch_lines`".
 use Rattle.std.specs.Prelude.{◌≡◌, ℕ, List, Bool, Option, Some, None, codes, true, false}
 use Rattle.clap.specs.Words.{App, Rule, first_of, first_value, found_of, matches_of, new_app, new_rule, one_of, one_text}
 use Rattle.clap.specs.Simple.{on_top}
@@ -24,8 +24,8 @@ IsFlag text flag =
     ((text ≡ None) → flag ≡ false) × ((text ≡ Some (codes "true")) → flag ≡ true)
     × ((text ≡ Some (codes "false")) → flag ≡ false)
 
--- For each argument, the result m of `clap` has two values from the command line `words`: the argument's first value as
--- given, and the value that `get_one` and `get_flag` read.
+-- For each argument id, the result m of `clap` gives the argument's first value, as given in the command line `words`,
+-- and the value that `get_one` and `get_flag` read.
 abbrev pub IsFound : App → List (List ℕ) → ArgMatches → Type 0
 IsFound line words m =
     (first_value (found_of m) ≡ λ id. first_of id (matches_of line words))

@@ -41,8 +41,8 @@ pub fn hidden_word<'a>(alloc: Global, name: &'a str) -> Arg<'a>
 ///
 /// # Errors
 ///
-/// The call returns `clap`'s error. A request for help or for the version is also an error of `clap`, and so is a
-/// failed allocation.
+/// The call returns `clap`'s error. `clap` also reports a request for help or for the version, and a failed allocation,
+/// as errors.
 pub fn find<'a>(command: Command<'a>, words: &'a [String]) -> Result<ArgMatches<'a>, Error>
     requires free { is_simple_and_free (app_of command) ≡ true }
     ensures ok { IfOk result (IsFound (app_of command.entry) (map string_bytes words.entry.now)) }

@@ -1,4 +1,4 @@
--- The result of a call that may run out of memory.
+-- Defines the result of a call that may run out of memory.
 use Rattle.std.specs.Prelude.{◌≡◌, Result, Err, IsOk}
 use Rattle.rev_core.specs.declared.fault.RevFault.{RevFault}
 use Rattle.rev_core.specs.declared.fault.RevFault.TheVariants as revs
@@ -10,8 +10,8 @@ abbrev pub GivesUnlessMemory : {A : Type 0} → Result A BaseFault → Result A 
 GivesUnlessMemory (Err faults.Memory) expected = IsOk expected
 GivesUnlessMemory result expected = result ≡ expected
 
--- The error of an edit if the new revision cannot be computed. The error is `Memory` if an allocation failed, and
--- `GenerationFull` otherwise.
+-- The error with which an edit fails if its new revision cannot be computed. The error is `Memory` if an allocation
+-- failed, and `GenerationFull` otherwise.
 abbrev pub edit_refusal : RevFault → BaseFault
 edit_refusal revs.Memory = faults.Memory
 edit_refusal refused = faults.GenerationFull

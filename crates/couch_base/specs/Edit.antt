@@ -1,4 +1,4 @@
--- Local edits, as specified in docs/PROFILE.md, "Local edits" and "Ids of local edits".
+-- Defines local edits, as specified in docs/PROFILE.md, "Local edits" and "Ids of local edits".
 use Rattle.std.specs.Prelude.{◌≡◌, ℕ, Bool, true, false, IsTrue, List, ◌∷◌, nat_le, Option, Some, None, Result, Ok, Err, if◌then◌else◌}
 use Rattle.std.specs.List.{list_all}
 use Rattle.std.specs.Option.{option_to_list}

@@ -7,7 +7,7 @@ abbrev pub Among : {X : Type 0} → X → List X → Type 0
 Among x [] = ⊥
 Among x (y ∷ ys) = (x ≡ y) ⊎ Among x ys
 
--- The numbers of a list rise, from above `lo` to at most `hi`.
+-- The numbers of a list rise, are above `lo`, and are at most `hi`.
 abbrev pub Rises : ℕ → List ℕ → ℕ → Type 0
 Rises lo [] hi = lo ≤ hi
 Rises lo (n ∷ ns) hi = (lo < n) × Rises n ns hi

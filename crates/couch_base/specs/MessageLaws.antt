@@ -49,12 +49,12 @@ all_wanted : (ds : List DocumentValue) (rows : List RowValue) → AllByRecursion
 all_wanted ds [] h = tt
 all_wanted ds (r ∷ rows) h = wanted_first r.id (missing (tree_of ds r.id) r.leaves) (wanted ds rows) (each_filter (eq_by_cmp rev_cmp) (λ l. not (has (tree_of ds r.id) l)) r.leaves h.0.distinct) (all_wanted ds rows h.1)
 
--- A request for a window names no document twice, and requests at least one revision of each named document, none
--- twice.
+-- A request for a window names no document twice, requests at least one revision of each named document, and requests
+-- no revision of a document twice.
 pub IsAsked-revs_diff : (db : DatabaseValue) (w : WindowValue) → IsWindow w → IsAsked (revs_diff db w)
 IsAsked-revs_diff db w window = record { distinct = each_wanted db.docs w.rows window.distinct; docs = all_wanted db.docs w.rows window.rows }
 
--- ---- every requested revision is in a document of the parcel, or gone
+-- ---- every requested revision is in a document of the parcel, or is listed as gone
 
 any_opened : (id : Id) (t : TreeValue) (leaf r : RevId) (xs : List RevId) → is_among leaf xs ≡ true → is_among r (ancestors t leaf) ≡ true → list_any (brings id r) (map (leaf_document id t) xs) ≡ true
 any_opened id t leaf r [] h above = absurd (false≢true h)
@@ -146,7 +146,7 @@ each_opened : (id : Id) (t : TreeValue) (xs : List RevId) → EachOnce (eq_by_cm
 each_opened id t [] h = tt
 each_opened id t (x ∷ xs) h = (apart_in id t x xs h.0, each_opened id t xs h.1)
 
--- If document d's id is not `id`, no leaf of document `id` has d's id and newest revision.
+-- No leaf of document `id` has the id and the newest revision of a document d with another id.
 apart_from : (d : Document) (id : Id) (t : TreeValue) (ys : List RevId) → bytes_eq d.id id ≡ false → list_any (same_revision d) (map (leaf_document id t) ys) ≡ false
 apart_from d id t [] h = refl
 apart_from d id t (y ∷ ys) h = ap (λ b. b || list_any (same_revision d) (map (leaf_document id t) ys)) (and_left _ (same_head d.ancestry (ancestors t y)) h) ∙ apart_from d id t ys h

@@ -1,5 +1,5 @@
--- Requests for missing revisions, and fetched parcels, as specified in docs/PROFILE.md, "Missing revisions" and
--- "Fetching", and in CouchDB, "Replication Protocol", `_revs_diff`, and a fetch with `latest`.
+-- Defines requests for missing revisions and fetched parcels, as specified in docs/PROFILE.md, "Missing revisions" and
+-- "Fetching", and in CouchDB, "Replication Protocol", `_revs_diff` and fetches with `latest`.
 use Rattle.std.specs.Prelude.{◌≡◌, ℕ, ◌<◌, Bool, true, false, ◌&&◌, ◌||◌, List, [], ◌∷◌, ◌++◌, map, length, Option, refl}
 use Rattle.std.specs.Coded.{Coded, code_by, coded×, coded_ℕ, coded_list}
 use Rattle.std.specs.List.{list_any, list_all, AllByRecursion}
@@ -52,13 +52,14 @@ coded_parcel =
 
 -- ---- requesting
 
--- The requests `others` for other documents, preceded by a request for the given revisions of document `id` if there
--- are any.
+-- The list `others` of requests, with a request for the revisions of document `id` put first if the list of revisions
+-- is not empty.
 abbrev pub want_first : Id → List RevId → List WantedValue → List WantedValue
 want_first id [] others = others
 want_first id (r ∷ revs) others = record { id = id; revs = r ∷ revs } ∷ others
 
--- The leaves of the given feed rows that the trees of the given documents lack, in the order of the rows.
+-- The requests for the leaves of the given feed rows that the trees of the given documents lack, in the order of the
+-- rows.
 abbrev pub wanted : List DocumentValue → List RowValue → List WantedValue
 wanted ds [] = []
 wanted ds (r ∷ rows) = want_first r.id (missing (tree_of ds r.id) r.leaves) (wanted ds rows)
@@ -69,11 +70,11 @@ revs_diff db w = record { lo = w.lo; hi = w.hi; docs = wanted db.docs w.rows }
 
 -- ---- fetching
 
--- The body of revision r in tree t, or the empty list if r has no content.
+-- The body of revision r in tree t, or the empty list if t stores no content of r.
 abbrev pub body_at : TreeValue → RevId → List ℕ
 body_at t r = option_map_or (λ (b : ContentValue). b.body) (get t.contents r) []
 
--- A leaf of document `id` as a document, with its known ancestry, its deleted flag and its body.
+-- The document that consists of a leaf of document `id`, with the leaf's known ancestry, deleted flag and body.
 abbrev pub leaf_document : Id → TreeValue → RevId → Document
 leaf_document id t leaf =
     record { id = id; ancestry = ancestors t leaf; deleted = is_deleted t leaf; body = body_at t leaf }
@@ -107,7 +108,7 @@ open_revs db a = record { asked = a; docs = fetched db.docs a.docs; gone = gone_
 
 -- ---- invariants
 
--- At least one revision of the document is requested, and no revision is requested twice.
+-- The request w names at least one revision of the document, and names no revision twice.
 pub record IsWanted (w : WantedValue) : Type 0 where
   pub some : 0 < length w.revs
   pub distinct : EachOnce (eq_by_cmp rev_cmp) w.revs
@@ -121,7 +122,7 @@ pub record IsAsked (a : AskedValue) : Type 0 where
 abbrev pub brings : Id → RevId → Document → Bool
 brings id r d = bytes_eq d.id id && is_among r d.ancestry
 
--- Whether the gone revision g is revision r of document `id`.
+-- Whether the gone revision g, which is a pair of a document id and a revision, is revision r of document `id`.
 abbrev pub is_rev_of : Id → RevId → Id × RevId → Bool
 is_rev_of id r g = bytes_eq g.0 id && eq_by_cmp rev_cmp r g.1
 

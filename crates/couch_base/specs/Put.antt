@@ -1,4 +1,5 @@
--- This file defines the effect of storing a document, as specified in docs/PROFILE.md, "Merging" and "Sequences".
+-- Defines the result of storing a document, and the database after the document was stored, as specified in
+-- docs/PROFILE.md, "Merging" and "Sequences".
 use Rattle.std.specs.Prelude.{◌≡◌, ℕ, ◌+◌, Bool, true, false, IsTrue, nat_lt, List, Result, Ok, Err, if◌then◌else◌}
 use Rattle.rev_tree.specs.Content.{ContentValue}
 use Rattle.rev_tree.specs.Tree.{merged, merge_answer}
@@ -31,13 +32,13 @@ abbrev pub put_answer : DatabaseValue → Document → Result Put BaseFault
 put_answer db d =
     put_told (merge_answer (tree_of db.docs d.id) d.ancestry) (nat_lt db.update_seq most) (db.update_seq + 1)
 
--- Whether a put with the given result changes the database and so takes a sequence.
+-- Whether a put with the given result changes the database and therefore takes a sequence.
 abbrev pub is_changed : Result Put BaseFault → Bool
 is_changed (Ok (answers.Changed seq)) = true
 is_changed (Ok answers.Same) = false
 is_changed (Err fault) = false
 
--- The result of `put` is the expected result, or is `Memory` if the expected result takes a sequence.
+-- The result of `put` is the expected result, or is `Memory` if a put with the expected result takes a sequence.
 abbrev pub PutGives : Result Put BaseFault → Result Put BaseFault → Type 0
 PutGives (Err faults.Memory) expected = IsTrue (is_changed expected)
 PutGives result expected = result ≡ expected
@@ -46,8 +47,8 @@ PutGives result expected = result ≡ expected
 abbrev pub content_of : Bool → List ℕ → ContentValue
 content_of deleted body = record { deleted = deleted; body = body }
 
--- The database after a put of document d. If the merge of a put changes the document's tree and the database has an
--- unused sequence, the document has the merged tree after the put.
+-- The database after a put of document d. The document has the merged tree after the put if the merge changes the
+-- document's tree and the database has an unused sequence.
 abbrev pub after_put : DatabaseValue → Document → Origin → DatabaseValue
 after_put db d o =
     if is_changed (put_answer db d) then with_tree db d.id

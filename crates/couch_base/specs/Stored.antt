@@ -1,6 +1,6 @@
--- The stored form of a database: a table of documents by id, and an index of their positions by sequence. Each change
--- of a document appends a row to the index of the document's database. A row of a database's index is live if its
--- document has no later change. The live rows of a database's index form the changes feed.
+-- Defines the stored form of a database: a table of documents by id, and an index of their positions by sequence. Each
+-- change of a document appends a row to the index of the document's database. A row of a database's index is live if
+-- the row's document has no later change. The live rows of a database's index form the changes feed.
 use Rattle.std.specs.Prelude.{◌≡◌, ℕ, ◌+◌, ◌*◌, ◌/◌, ◌<◌, ◌≤◌, ◌==◌, nat_lt, nat_le, Bool, false, not, List, [], ◌∷◌, cond, if◌then◌else◌, map, filter, length, slice_get, unwrap_or, Option, Some, None, IfSome, refl}
 use Rattle.std.specs.Coded.{Coded, code_by, coded×, coded_ℕ, coded_list}
 use Rattle.std.specs.Option.{option_map, option_map_or}
@@ -51,16 +51,16 @@ live docs rows = filter (is_live docs) rows
 abbrev pub feed_of : List (Id × Kept) → List (ℕ × ℕ) → List (ℕ × Id)
 feed_of docs rows = named (keys_of docs) (live docs rows)
 
--- The rows of a database's index above sequence a.
+-- The rows of a database's index with sequences above a.
 abbrev pub above : ℕ → List (ℕ × ℕ) → List (ℕ × ℕ)
 above a rows = filter (λ e. nat_lt a e.0) rows
 
--- The live rows of a database's index at or below sequence b.
+-- The live rows of a database's index with sequences of at most b.
 abbrev pub live_upto : List (Id × Kept) → ℕ → List (ℕ × ℕ) → List (ℕ × ℕ)
 live_upto docs b rows = filter (λ e. nat_le e.0 b) (live docs rows)
 
--- The rows of a database's index after a change of one of n documents. The index of n documents keeps all rows if it
--- has at most 2 n + 1 rows, otherwise only the live rows.
+-- The rows that the index of a database with n documents has after a change. The database keeps all rows of the index
+-- if the index has at most 2 n + 1 rows, otherwise only the live rows.
 abbrev pub swept : List (Id × Kept) → List (ℕ × ℕ) → List (ℕ × ℕ)
 swept docs rows = if nat_lt (length docs) (length rows / 2) then live docs rows else rows
 
@@ -68,7 +68,7 @@ swept docs rows = if nat_lt (length docs) (length rows / 2) then live docs rows 
 abbrev pub ArePlaces : ℕ → List (ℕ × ℕ) → Type 0
 ArePlaces n index = (e : ℕ × ℕ) → Among e index → e.1 < n
 
--- The document id at sequence s of the index, if there is one.
+-- The document id of the index entry with the sequence s, if the index has such an entry.
 abbrev pub at_seq : ℕ → List (ℕ × Id) → Option Id
 at_seq s index = lookup (is_at (nat_cmp s)) index
 
@@ -155,7 +155,8 @@ Sets g h id k = (q : Id) → h q ≡ cond (bytes_eq id q) (Some k) (g q)
 abbrev pub feed_without : Id → List (ℕ × Id) → List (ℕ × Id)
 feed_without id index = filter (λ e. not (bytes_eq e.1 id)) index
 
--- The effect on the table of a database if one document changes. The change takes the next sequence.
+-- The table `new` of a database results from the table `old` by a change of one document's tree. The change of the
+-- document takes the next sequence of the database.
 pub record IsWritten (old new : TableValue) (id : Id) (tree : TreeValue) : Type 0 where
   pub kept : IsKept new
   pub value : (uuid life : ℕ) → database_of uuid life new ≡ with_tree (database_of uuid life old) id tree

@@ -1,4 +1,4 @@
-//! Iterates over the changes feed without copying its documents.
+//! Iterates over the changes feed without copying the documents of the feed.
 ghost use Rattle.std.specs.Prelude.{◌≡◌, ◌∷◌, [], None, IfOk, IfSome};
 
 use crate::table::Table;
@@ -48,7 +48,7 @@ impl<'a> Change<'a> {
     }
 }
 
-/// An iterator over a part of the changes feed, by rising sequence. It copies no documents.
+/// An iterator over a part of the changes feed, by rising sequence. The iterator copies no documents.
 #[derive(Drop)]
 pub struct Feed<'a> {
     table: &'a Table,

@@ -12,8 +12,8 @@ use rev_tree::SessionId;
 use std::alloc::{AllocError, Global};
 use std::marker::Model;
 
-/// A parcel: a request for the window `(lo, hi]`, the documents fetched for it, and the requested revisions that are
-/// gone.
+/// A parcel: a request for the window `(lo, hi]`, the documents fetched for this request, and the requested revisions
+/// that are gone.
 ///
 /// Each requested revision of a document is gone, or in the ancestry of a fetched document with the same id. The
 /// ancestry of each fetched document contains a requested revision. No two documents have the same id and newest

@@ -1,4 +1,4 @@
--- The options of `couch_replicate`, and the values of the options, as specified in docs/PROFILE.md, "Options".
+-- Defines the options of `couch_replicate` and their values, as specified in docs/PROFILE.md, "Options".
 use Rattle.std.specs.Prelude.{◌≡◌, ◌^◌, ◌<◌, ℕ, List, Bool, Option, Some, None, codes, option_map, string_bytes, true, false}
 use Rattle.std.specs.Str.Parse.{without_leading_plus, IsNumeral, digits_value}
 use Rattle.clap.specs.Words.{App, HasKind, Rule, fault_of, first_of, one_of, matches_of, new_rule, with_rule}
@@ -20,7 +20,7 @@ number_option name =
     record (new_rule name)
     { long = Some name; action = Some Set; value_names = 1; parser = Some (vp.Unsigned 0 18446744073709551615) }
 
--- The command line of the program `couch_replicate`.
+-- The `clap` definition of the command line of the program `couch_replicate`.
 abbrev pub options : App
 options = with_rule (with_rule (with_rule (with_rule (with_rule (with_rule (with_rule (with_rule (with_rule
     (program_app (codes "couch_replicate")) deny_option) (number_option (codes "seed"))) (number_option (codes "at"))) (number_option (codes "workers")))
@@ -34,7 +34,7 @@ IsNumber (Some text) default n =
     IsNumeral 10 (without_leading_plus text) × (digits_value 10 (without_leading_plus text) < 2 ^ 64)
     × (n ≡ digits_value 10 (without_leading_plus text))
 
--- The settings have the values that the options' texts give, and the command line has no positional argument.
+-- The settings s have the values that the texts of the options give, and the command line has no positional argument.
 abbrev pub AreSettings : (List ℕ → Option (List ℕ)) → (List ℕ → Option (List ℕ)) → Settings → Type 0
 AreSettings text number s =
     (text (codes "file") ≡ None) × (option_map string_bytes s.deny ≡ text (codes "deny")) × IsNumber (number (codes "seed")) 0 s.seed
@@ -42,27 +42,28 @@ AreSettings text number s =
     × IsNumber (number (codes "workers")) 4 s.workers × IsNumber (number (codes "batch")) 500 s.batch
     × IsFlag (number (codes "quiet")) s.quiet
 
--- The settings, and the Booleans for explanations and progress on standard error, have the values of the options.
+-- The settings of o, and the Booleans of o for explanations and progress on standard error, have the values that the
+-- command line gives to the options.
 abbrev pub AreOptions : (List ℕ → Option (List ℕ)) → (List ℕ → Option (List ℕ)) → Options → Type 0
 AreOptions text number o = AreSettings text number o.settings
     × IsFlag (number (codes "explain")) o.explain × IsFlag (number (codes "progress")) o.progress
 
--- The options have the values that the arguments of a command line give.
+-- The options o have the values that the command line `words` gives.
 abbrev pub Says : List (List ℕ) → Options → Type 0
 Says words o = AreOptions (λ id. first_of id (matches_of options words)) (λ id. one_of id (matches_of options words)) o
 
 -- ---- arguments without settings
 
--- The reason why the texts of the options give no settings. The reason is one of three: texts that no settings match, a
--- positional argument, or a failed allocation.
+-- The reason why no settings result from the texts of the options. The reason is one of three: texts that no settings
+-- match, a positional argument, or a failed allocation.
 abbrev pub SetNothing : (List ℕ → Option (List ℕ)) → (List ℕ → Option (List ℕ)) → NoSettings → Type 0
 SetNothing text number (Words error) = ⊥
 SetNothing text number NoNumber = (s : Settings) → AreSettings text number s → ⊥
 SetNothing text number File = text (codes "file") ≡ None → ⊥
 SetNothing text number Memory = Unit {0}
 
--- The reason why the arguments give no options. The reason is one of four: an error of `clap`, arguments that no
--- options match, a positional argument, or a failed allocation.
+-- The reason why no options result from the arguments `words`. The reason is one of four: an error of `clap`, arguments
+-- that no options match, a positional argument, or a failed allocation.
 abbrev pub Refuses : List (List ℕ) → NoSettings → Type 0
 Refuses words (Words error) = HasKind (fault_of options words) error
 Refuses words NoNumber = (o : Options) → Says words o → ⊥

@@ -1,5 +1,5 @@
--- Runs of `couch_replicate` with any reader and writer, and with standard input and output, as specified in
--- docs/PROFILE.md, "Options" and "Answers".
+-- Defines what runs of `couch_replicate` read, write and return, with any reader and writer, and with standard input
+-- and output, as specified in docs/PROFILE.md, "Options" and "Answers".
 use Rattle.std.specs.Prelude.{◌≡◌, ℕ, List, [], Bool, Option, Result, Ok, Err, OnOk}
 use Rattle.std.specs.Io.KnownBytes.{Appends, Consumes}
 use Rattle.script_engine.specs.Device.{Gives}
@@ -16,12 +16,12 @@ use Rattle.couch_replicate.specs.declared.options.Options.{Options}
 use Rattle.couch_replicate.specs.declared.run.Ended.{Ended}
 use Rattle.couch_replicate.specs.declared.run.Ended.TheVariants.{NotRun, Ran}
 
--- The output of a script with the given settings, and the output's guarantees. After an error the program's output is a
--- prefix of the script's complete output. After the errors `Read` and `Memory`, the program's output ends between the
--- outputs of two lines. After the error `Read`, the program's output is the output of all lines that were read. The
--- argument `given` of `Answered` is a predicate of the script's bytes, and `taken` is a predicate of the bytes that
--- were read. The arguments `held` and `held'` of `Answered` are the bytes that the writer was given before and after
--- the run.
+-- A statement about the output of a script that runs with the settings of `program`. After an error the program's
+-- output is a prefix of the script's complete output. After the errors `Read` and `Memory`, the program's output ends
+-- between the outputs of two lines. After the error `Read`, the program's output is the output of all lines that were
+-- read. The argument `given` of `Answered` is a predicate of the script's bytes, and `taken` is a predicate of the
+-- bytes that were read. The arguments `held` and `held'` of `Answered` are the bytes that the writer had been given
+-- when the run began, and when it ended.
 abbrev pub Answered : Program → (List ℕ → Type 0) → (List ℕ → Type 0) → Option (List ℕ) → Option (List ℕ)
     → Result Bool ScriptFault → Type 0
 Answered program given taken held held' (Ok clean) =
@@ -33,14 +33,15 @@ Answered program given taken held held' (Err fault) =
     × (fault ≡ Read → (input : List ℕ) × (text : List ℕ) × (state : State) × taken input
     × Appends held held' text × AnswersEnded TrustedLines (no_databases program) input text state)
 
--- The effect of a run of `couch_replicate` with the given command line. If the command line gives no settings, no byte
--- is read or written. If the command line gives settings, a script is run with these settings. The writer has passed on
--- the script's output, unless a write failed. The statement `Answered` is made twice: once with the reader's remaining
--- bytes as the script's input, and once with the bytes that the reads returned. If a run of a script succeeded, the
--- script's input has ended. The arguments of `RunsWords` about the reader are the remaining bytes and the bytes that
--- the reads returned, each before and after the run. A further argument of `RunsWords` says whether the reads reached
--- the input's end. The arguments of `RunsWords` about the writer are the bytes that the writer was given before and
--- after the run, and the bytes that the writer passed on.
+-- States what a run of `couch_replicate` with the command line `words` reads, writes and returns. If the command line
+-- gives no settings, no byte is read or written. If the command line gives settings, a script is run with these
+-- settings. The writer has passed on the script's output, unless a write failed. The statement `Answered` is made
+-- twice: once with the reader's remaining bytes as the script's input, and once with the bytes that the reads returned.
+-- If a run of a script succeeded, the script's input has ended. The arguments `left` and `left'` of `RunsWords` are the
+-- remaining bytes of the reader before and after the run. The arguments `took` and `took'` are the bytes that reads had
+-- returned before the run, and after the run. The argument `at_end` of `RunsWords` says whether the reads reached the
+-- input's end. The arguments `held` and `held'` are the bytes that the writer had been given before the run and after
+-- the run. The argument `sent` has the bytes that the writer passed on.
 abbrev pub RunsWords : List (List ℕ) → Option (List ℕ) → Option (List ℕ) → Option (List ℕ) → Option (List ℕ) → Type 0
     → Option (List ℕ) → Option (List ℕ) → Option (List ℕ) → Ended → Type 0
 RunsWords words left left' took took' at_end held held' sent (NotRun why) =
@@ -51,8 +52,9 @@ RunsWords words left left' took took' at_end held held' sent (Ran ended) =
     × Answered (program_of o.settings) (λ input. Appends took took' input) (λ input. Appends took took' input) held held'
     ended × OnOk ended at_end × IsSent ended held' sent
 
--- The effect of `couch_replicate` on standard input and output. The arguments of `RunsStandard` are the command line,
--- the bytes read, whether the reads reached the input's end, and the bytes that standard output accepted.
+-- States what `couch_replicate` reads from standard input and writes to standard output. The arguments of
+-- `RunsStandard` are the command line, the bytes read, whether the reads reached the input's end, and the bytes that
+-- standard output accepted.
 abbrev pub RunsStandard : List (List ℕ) → List ℕ → Type 0 → List ℕ → Ended → Type 0
 RunsStandard words input at_end text (NotRun why) = Refuses words why × (input ≡ []) × (text ≡ [])
 RunsStandard words input at_end text (Ran ended) =

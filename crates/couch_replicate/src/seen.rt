@@ -26,8 +26,8 @@ impl Seen {
         }
     }
 
-    /// Adds the output of a line, or the output's first piece, to the counts. The output of `load` and `edit` is empty
-    /// if the program is quiet.
+    /// Updates the counts for the output of a line, or for the first piece of this output. The output of `load` and
+    /// `edit` is empty if the program is quiet.
     pub(crate) fn note(&mut self, answer: &[u8]) {
         let Ok(text) = str::from_utf8(answer) else {
             return;
@@ -42,7 +42,7 @@ impl Seen {
         }
     }
 
-    /// Adds the output of a `replicate` or `sync` line to the counts.
+    /// Updates the counts for the output of a `replicate` or `sync` line.
     fn note_sessions(&mut self, text: &str) {
         let mut before = "";
         for word in text.split_whitespace() {

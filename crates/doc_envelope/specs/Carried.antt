@@ -1,5 +1,5 @@
--- Relations between the text of a document and the text of the document's envelope, as specified in docs/PROFILE.md,
--- "Documents in envelopes".
+-- Defines relations between the text of a document and the text of the document's envelope, as specified in
+-- docs/PROFILE.md, "Documents in envelopes".
 use Rattle.std.specs.Prelude.{◌≡◌, ℕ, ◌+◌, ◌&&◌, ◌||◌, ◌==◌, List, [], ◌∷◌, ◌++◌, true, false, Some}
 use Rattle.std.specs.List.{filter}
 use Rattle.doc_envelope.specs.Texts.{EndsString}
@@ -37,8 +37,8 @@ pub record HasMembers (x : List ℕ) (ms : List (List ℕ)) : Type 0 where
   pub members : AreMembers ms
   pub text : x ≡ object_of ms
 
--- The value of the one member `whole` is a JSON string in any spelling, whose content is the texts of the wrapped
--- members with commas between them. If an envelope wraps no members, it has no member `whole`.
+-- The envelope's one member `whole` has a JSON string in any spelling as its value. The content of this string is the
+-- texts of the wrapped members, with commas between them. If an envelope wraps no members, it has no member `whole`.
 pub data Carries : List (List ℕ) → List (List ℕ) → Type 0 where
   none : Carries [] []
   whole : {w : List ℕ} (o : List ℕ) (os : List (List ℕ)) → has_name w whole_name ≡ true

@@ -24,8 +24,9 @@ stays m =
 abbrev pub goes : List ℕ → Bool
 goes m = not (stays m)
 
--- The member of an envelope that holds the wrapped members, if there are any. The value of this member `whole` is one
--- string, which has the texts of the wrapped members with commas between them.
+-- The list of the one member of an envelope that holds the wrapped members, or the empty list if there are no wrapped
+-- members. The value of the member `whole` is one string, which has the texts of the wrapped members with commas
+-- between them.
 abbrev pub whole_of : List (List ℕ) → List (List ℕ)
 whole_of [] = []
 whole_of (m ∷ ms) = (whole_name ++ 58 ∷ quoted (joined (m ∷ ms))) ∷ []
@@ -33,8 +34,8 @@ whole_of (m ∷ ms) = (whole_name ++ 58 ∷ quoted (joined (m ∷ ms))) ∷ []
 abbrev pub envelope_of : List ℕ → List ℕ
 envelope_of x = object_of (filter stays (members_of x) ++ whole_of (filter goes (members_of x)))
 
--- Whether an envelope may have a member with the given name and value. For an envelope's members `_deleted` and
--- `whole`, the type of the value is checked, and for other members only the name.
+-- Whether an envelope may have a member with the given name and value. For the members `_deleted` and `whole` of an
+-- envelope, the result depends on the name and the type of the value, and for other members on the name only.
 abbrev pub may_stand : List ℕ → Json → Bool
 may_stand name j =
     cond (bytes_eq name (codes "_id") || bytes_eq name (codes "_rev") || bytes_eq name (codes "_revisions")) true
@@ -69,7 +70,7 @@ enveloped x = cond (is_enveloped x) (Some (envelope_of x)) None
 abbrev pub if_any : List ℕ → Option (List ℕ)
 if_any t = cond (is_blank t) None (Some t)
 
--- The value of a JSON string.
+-- The value of the JSON string in the text t, or `None` if t is not a JSON string in UTF-8.
 abbrev pub string_of : List ℕ → Option (List ℕ)
 string_of t = cond (is_utf8 t) (option_and_then as_str (document t)) None
 

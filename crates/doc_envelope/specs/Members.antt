@@ -1,10 +1,11 @@
--- The members of a JSON object as texts, as specified in docs/PROFILE.md, "Documents in envelopes".
+-- Defines the members of a JSON object as texts, as specified in docs/PROFILE.md, "Documents in envelopes".
 use Rattle.std.specs.Prelude.{ℕ, ◌+◌, ◌-◌, ◌&&◌, ◌||◌, ◌==◌, length, drop, List, [], ◌∷◌, ◌++◌, Bool, false, not, cond}
 use Rattle.std.specs.List.{list_all, filter}
 
 -- ---- byte by byte
 
--- The mode of a byte in a member: outside of strings, in a string, or after a backslash in a string.
+-- The mode of a byte in a member says whether the byte is outside of strings, in a string, or after a backslash in a
+-- string.
 pub data Mode : Type 0 where
   Outside : Mode
   Quoted : Mode
@@ -34,7 +35,7 @@ nesting_behind Escaped n b = n
 
 -- ---- members
 
--- The number of unread bytes of the current member.
+-- The number of bytes of the remaining text before the end of the current member.
 unfoldable pub length_in : Mode → ℕ → List ℕ → ℕ
 length_in m n [] = 0
 length_in m n (b ∷ t) = cond (ends_member m n b) 0 (length_in (mode_behind m b) (nesting_behind m n b) t + 1)

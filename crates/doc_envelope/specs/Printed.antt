@@ -1,4 +1,4 @@
--- Envelopes whose text equals the text that the kit's JSON library writes for the envelope's value.
+-- Defines the envelopes whose text equals the text that the kit's JSON library writes for the envelope's value.
 use Rattle.std.specs.Prelude.{◌≡◌, ℕ, ◌≤◌, ◌<◌, List, [], ◌∷◌, ◌++◌, codes, true, Some}
 use Rattle.std.specs.Str.{IsUtf8}
 use Rattle.json.specs.Json.{Json, max_depth}
@@ -45,13 +45,13 @@ pub record BeginsWithString (t rest : List ℕ) : Type 0 where
   pub utf8 : IsUtf8 string
   pub text : t ≡ quoted string ++ rest
 
--- Strings as the kit's JSON library writes them, with commas between them, and then the brackets that close a list and
--- an object.
+-- The text consists of strings as the kit's JSON library writes them, with commas between them, and then of the
+-- brackets that close a list and an object.
 pub data AreIds : List ℕ → Type 0 where
   last_id : {s : List ℕ} → IsUtf8 s → AreIds (quoted s ++ 93 ∷ 125 ∷ [])
   more_ids : {s t : List ℕ} → IsUtf8 s → AreIds t → AreIds (quoted s ++ 44 ∷ t)
 
--- The text t consists of a number and the member `ids` with a list of strings, up to the bracket that closes the
+-- The text t consists of a number, a comma, the member `ids` with a list of strings, and the bracket that closes the
 -- object.
 pub record IsStarted (t : List ℕ) : Type 0 where
   pub digits : List ℕ

@@ -1,4 +1,4 @@
--- Beginnings of an envelope that are written before the end of the wrapped document is read.
+-- Defines the beginnings of envelopes that are written before the end of the wrapped document is read.
 use Rattle.std.specs.Prelude.{◌≡◌, ℕ, ◌<◌, ◌-◌, length, take, drop, List, [], ◌∷◌, ◌++◌, codes, true}
 use Rattle.json.specs.Print.{escape}
 use Rattle.doc_envelope.specs.Members.{Outside, Quoted, first_length, members_in}
@@ -18,7 +18,7 @@ held_from s = helds_by [] (members_in Outside 0 [] (drop 1 s))
 abbrev pub before_last : List ℕ → List ℕ
 before_last t = take (length t - 1) t
 
--- The beginning s of a document ends in a string of the member `_attachments`.
+-- The beginning s of a document ends inside a string that is in the member `_attachments`.
 pub record InAttachments (s : List ℕ) : Type 0 where
   pub member : List ℕ
   pub opens : Opens (drop 1 s) member

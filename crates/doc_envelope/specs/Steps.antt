@@ -1,4 +1,4 @@
--- The effect of one member on the text of an envelope that is built or unwrapped.
+-- Defines how one member changes the text of an envelope that is built or unwrapped.
 use Rattle.std.specs.Prelude.{ℕ, ◌==◌, nat_lt, length, get_or, drop, ◌+◌, List, [], ◌∷◌, ◌++◌, cond, Option, Some, option_map, option_and_then}
 use Rattle.json.specs.Print.{quoted}
 use Rattle.doc_envelope.specs.Members.{is_blank}

@@ -1,4 +1,4 @@
--- The values by which contracts describe the stored buffers of an envelope.
+-- Defines the values by which contracts describe the stored buffers of an envelope.
 use Rattle.std.specs.Prelude.{◌≡◌, ℕ, List, [], ◌∷◌, ◌++◌, Bool, true}
 use Rattle.doc_envelope.specs.Printed.{IsPrinted}
 use Rattle.doc_envelope.specs.declared.envelope.Envelope.{Envelope}

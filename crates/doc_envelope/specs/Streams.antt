@@ -1,5 +1,5 @@
--- Beginnings of documents for which output is written before the document's end is read. A run of bytes in a string is
--- written at once, and is not stored.
+-- Defines the beginnings of documents for which output is written before the document's end is read. A run (consecutive
+-- bytes in a string) is written at once, and is not stored.
 use Rattle.std.specs.Prelude.{◌≡◌, ℕ, ◌≤◌, ◌-◌, ◌&&◌, ◌==◌, nat_le, nat_lt, length, drop, List, [], ◌∷◌, ◌++◌, Bool, true, not}
 use Rattle.std.specs.List.{list_all}
 use Rattle.doc_envelope.specs.Members.{Mode, Outside, Quoted, first_length, mode_behind}
@@ -12,12 +12,13 @@ is_streamable b = nat_le 32 b && nat_lt b 127 && not (b == 34) && not (b == 92)
 abbrev pub IsRun : List ℕ → Type 0
 IsRun r = list_all is_streamable r ≡ true
 
--- The mode after a text, if its first byte has mode m.
+-- The mode of the byte that follows a text, if the first byte of the text has the mode m.
 unfoldable pub mode_after : Mode → List ℕ → Mode
 mode_after m [] = m
 mode_after m (b ∷ t) = mode_after (mode_behind m b) t
 
--- A run may be inserted after the text s: s ends in a string, and the last bytes of s are not part of an escape.
+-- A run (bytes in a string that are not stored) may be inserted after s. The text s ends inside a string, and the last
+-- bytes of s are not part of an escape.
 pub record MayStream (s : List ℕ) : Type 0 where
   pub quoted : mode_after Outside s ≡ Quoted
   pub long : 16 ≤ length s

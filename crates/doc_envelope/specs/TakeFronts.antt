@@ -1,4 +1,4 @@
--- Beginnings of a document that are written before the end of the document's envelope is read.
+-- Defines the beginnings of documents that are written before the end of the document's envelope is read.
 use Rattle.std.specs.Prelude.{◌≡◌, ℕ, ◌<◌, length, drop, List, [], ◌∷◌, ◌++◌, codes, false, Some}
 use Rattle.doc_envelope.specs.Members.{Outside, first_length, is_blank, members_in}
 use Rattle.doc_envelope.specs.Envelopes.{string_of}
@@ -10,15 +10,16 @@ abbrev pub whole_before : List ℕ → List ℕ
 whole_before t = codes "\"whole\":\"" ++ t
 
 -- The text q is the beginning of a JSON string, from the opening quotation mark, and has content that is not blank. The
--- text S is the text `made` of an object, after the content of q is added as further members.
+-- text S is the object's text `made`, to which the content of q was added as further members.
 pub record AppendsOpen (q made S : List ℕ) : Type 0 where
   pub content : List ℕ
   pub says : string_of (q ++ 34 ∷ []) ≡ Some content
   pub filled : is_blank content ≡ false
   pub front : S ≡ added made content
 
--- A run may follow the beginning s of an envelope. The text `made` results from the members before the member `whole`,
--- and s ends in the string of the member `whole`. The document of each envelope that begins with s begins with S.
+-- A run (bytes in a string that are not stored) may follow the beginning s of an envelope. The text `made` results from
+-- the members before the member `whole`, and s ends in the string of the member `whole`. The document of each envelope
+-- that begins with s begins with S.
 pub record IsTakeStart (s S : List ℕ) : Type 0 where
   pub may : MayStream s
   pub made : List ℕ

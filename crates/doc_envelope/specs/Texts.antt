@@ -1,5 +1,5 @@
--- JSON texts as lists of bytes, as specified in docs/PROFILE.md, "CouchDB's answers". The grammar of the kit's JSON
--- library decides whether a text is JSON.
+-- Defines JSON texts as lists of bytes, as specified in docs/PROFILE.md, "CouchDB's answers". The grammar of the kit's
+-- JSON library decides whether a text is JSON.
 use Rattle.std.specs.Prelude.{◌≡◌, ℕ, ◌+◌, ◌<◌, ◌&&◌, ◌||◌, ◌==◌, List, [], ◌∷◌, ◌++◌, Bool, true, false, is_some}
 use Rattle.std.specs.List.{list_all}
 use Rattle.std.specs.Str.{is_utf8}

@@ -23,7 +23,7 @@ const WHOLE: &[u8] = b"\"whole\"";
 #[derive(Drop)]
 pub struct Envelope {
     pub(crate) alloc: Global,
-    /// The last result.
+    /// The text that was built last, by wrapping or unwrapping.
     text: Vec<u8>,
     /// The text of the members that the envelope stores in its string.
     held: Vec<u8>,
@@ -34,7 +34,7 @@ pub struct Envelope {
 }
 
 impl Envelope {
-    /// Creates an empty result.
+    /// Creates an `Envelope` with an empty text.
     pub fn new(alloc: Global) -> Envelope
         ensures { made_of result ≡ [] }
     {
@@ -47,7 +47,7 @@ impl Envelope {
         }
     }
 
-    /// The last result.
+    /// Returns the text that was built last, by wrapping or unwrapping.
     pub fn text(&self) -> &[u8]
         ensures { result.now ≡ made_of self.now }
     {
@@ -106,7 +106,7 @@ impl Envelope {
         self.is_json()
     }
 
-    /// Whether the text of the built envelope is JSON.
+    /// Whether the text that was built last is JSON.
     fn is_json(&mut self) -> Result<bool, AllocError>
         ensures value { IfOk result (λ json. json ≡ is_json (made_of self.old)) }
         ensures same { made_of self.new ≡ made_of self.old }
@@ -117,7 +117,7 @@ impl Envelope {
         json::is_valid(text, &mut self.scratch)
     }
 
-    /// Starts a new result.
+    /// Starts a new text with an opening brace.
     pub(crate) fn begin(&mut self) -> Result<(), AllocError>
         ensures made { OnOk result (made_of self.new ≡ 123 ∷ []) }
         ensures held { OnOk result (held_of self.new ≡ []) }

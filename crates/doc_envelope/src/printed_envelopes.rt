@@ -94,7 +94,7 @@ fn ends_printed(text: &[u8]) -> bool
     at + 1 == text.len() && text[at] == b'"'
 }
 
-/// Returns true only if the escape of a quotation mark or of a backslash is at a position.
+/// Returns true only if the escape of a quotation mark or of a backslash is at the given position.
 #[inline(always)]
 fn is_escape(text: &[u8], at: usize) -> bool
     requires { at ≤ length text.now }

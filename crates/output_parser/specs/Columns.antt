@@ -1,4 +1,4 @@
--- Lines of numbers in a script's output, as specified in docs/PROFILE.md, "Answers".
+-- Defines the lines of numbers in a script's output, as specified in docs/PROFILE.md, "Answers".
 use Rattle.std.specs.Prelude.{◌≡◌, ℕ, List, [], ◌∷◌, ◌++◌, true, codes, reverse}
 use Rattle.std.specs.Str.{IsUtf8}
 use Rattle.output_parser.specs.Words.{lacks, named, InTurn, IsNumber}

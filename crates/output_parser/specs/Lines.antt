@@ -1,4 +1,4 @@
--- The contents of the lines of a script's output, as specified in docs/PROFILE.md, "Answers" and "Pictures".
+-- Defines the contents of the lines of a script's output, as specified in docs/PROFILE.md, "Answers" and "Pictures".
 use Rattle.std.specs.Prelude.{◌≡◌, ℕ, List, [], ◌∷◌, ◌++◌, Bool, true, false, codes, map, string_bytes}
 use Rattle.std.specs.Str.{IsUtf8}
 use Rattle.rev_core.specs.Rev.{RevId}
@@ -35,7 +35,7 @@ pub record LeafParts (line own : List ℕ) (live : Bool) (list : List ℕ) : Typ
   pub word : lacks 32 own ≡ true
   pub form : line ≡ codes "leaf " ++ (own ++ 32 ∷ (state_text live ++ list))
 
--- The first revision of a list of revisions has the text `own`.
+-- The list `revs` begins with a revision whose text is `own`.
 abbrev pub BeginsWith : List ℕ → List RevId → Type 0
 BeginsWith own [] = ⊥
 BeginsWith own (r ∷ rest) = own ≡ rev_text r
@@ -60,13 +60,13 @@ pub record IsListed (word line id : List ℕ) (revs : List RevId) : Type 0 where
   pub parts : ListedParts word line id list
   pub listed : IsRevs list revs
 
--- The first word and the first blank of a line `missing ID REVS`, `contradicts ID REV` or `differs ID REVS`.
+-- The first word, and the blank after it, of a line `missing ID REVS`, `contradicts ID REV` or `differs ID REVS`.
 abbrev pub finding_text : Finding → List ℕ
 finding_text findings.Missing = codes "missing "
 finding_text findings.Contradicts = codes "contradicts "
 finding_text findings.Differs = codes "differs "
 
--- The line is not a line of `compare` with the given finding.
+-- The line does not report the given finding of `compare`.
 abbrev pub NoFinding : List ℕ → Finding → Type 0
 NoFinding line finding = (id : List ℕ) (revs : List RevId) → IsListed (finding_text finding) line id revs → ⊥
 

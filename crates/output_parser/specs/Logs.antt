@@ -1,4 +1,4 @@
--- Lines that are logs, as specified in docs/PROFILE.md, "Replication ids and logs".
+-- Defines the lines that are logs, as specified in docs/PROFILE.md, "Replication ids and logs".
 use Rattle.std.specs.Prelude.{◌≡◌, ℕ, List, [], ◌∷◌, ◌++◌, true, codes, get_or, map, string_bytes}
 use Rattle.std.specs.Str.{IsUtf8}
 use Rattle.std.specs.Borrow.{Bor}

@@ -1,4 +1,4 @@
--- Words of a line of a script's output, as specified in docs/PROFILE.md, "Answers".
+-- Defines the words of a line of a script's output, as specified in docs/PROFILE.md, "Answers".
 use Rattle.std.specs.Prelude.{◌≡◌, ◌==◌, ◌<◌, ◌^◌, ℕ, List, [], ◌∷◌, ◌++◌, Bool, not, map, decimal}
 use Rattle.std.specs.List.{AllByRecursion, list_all, slice_split}
 use Rattle.rev_core.specs.Rev.{IsRev, RevId}

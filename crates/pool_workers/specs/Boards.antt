@@ -1,4 +1,4 @@
--- What a run of the pool shows on a progress board, as specified in docs/PROFILE.md, "The pool".
+-- Defines what a run of the pool shows on a progress board, as specified in docs/PROFILE.md, "The pool".
 use Rattle.std.specs.Prelude.{◌≡◌, ◌+◌, ◌<◌, ◌≤◌, ℕ, true, List, [], ◌∷◌, ◌++◌, Option, None, Some, Result, Ok, Err, length, option_to_list}
 use Rattle.std.specs.List.{All}
 use Rattle.progress_board.specs.Seats.{CameWith, seen_read, seen_settled}
@@ -8,7 +8,7 @@ use Rattle.progress_board.specs.declared.seat.BoardSeat.{BoardSeat}
 use Rattle.pool_workers.specs.Sums.{total}
 use Rattle.pool_workers.specs.declared.fault.Halt.{Halt}
 
--- Seat s is a worker's seat of board b.
+-- Seat s is a seat of board b, and belongs to a worker.
 abbrev pub WorksAt : Board → BoardSeat → Type 0
 WorksAt b s = CameWith b s × (s.works ≡ true)
 
@@ -20,13 +20,13 @@ HasNothing s = (s.read ≡ 0) × (s.settled ≡ 0) × (seen_read s ≡ 0) × (se
 abbrev pub IsRisen : Board → BoardSeat → BoardSeat → Type 0
 IsRisen b s t = WorksAt b t × (t.number ≡ s.number) × (s.read ≤ t.read) × (s.settled ≤ t.settled)
 
--- The list `now` has the seats of the list `given`, in the same order, and no counter has fallen.
+-- The list `now` has the seats of the list `given`, in the same order, and no counter of a seat has fallen.
 abbrev pub AreRisen : Board → List BoardSeat → List BoardSeat → Type 0
 AreRisen b [] [] = Unit {0}
 AreRisen b (s ∷ given) (t ∷ now) = IsRisen b s t × AreRisen b given now
 AreRisen b given now = ⊥
 
--- The total number of documents that the seats of a list show as read.
+-- The sum of the numbers of documents that the seats of a list show as read.
 abbrev pub read_on : List BoardSeat → ℕ
 read_on seats = total (λ (s : BoardSeat). s.read) seats
 
@@ -44,18 +44,19 @@ abbrev pub MayFill : Option Board → Type 0
 MayFill None = ⊥
 MayFill (Some b) = Unit {0}
 
--- If there is a board, all seats of the list are worker seats of the board. Without a board, the list has no seats.
+-- If there is a board, all seats of the list are worker seats of the board. If there is no board, the list has no
+-- seats.
 abbrev pub AreSeated : Option Board → List BoardSeat → Type 0
 AreSeated None seats = seats ≡ []
 AreSeated (Some b) seats = All (WorksAt b) seats
 
 -- If there is a board, all seats of the list are worker seats of the board. The number of seats in the list, plus the
--- number `out` of seats in use, is at least the number of workers. Without a board, the list has no seats.
+-- number `out` of seats in use, is at least the number of workers. If there is no board, the list has no seats.
 abbrev pub AreSeats : Option Board → ℕ → ℕ → List BoardSeat → Type 0
 AreSeats None out workers seats = seats ≡ []
 AreSeats (Some b) out workers seats = (workers ≤ length seats + out) × All (WorksAt b) seats
 
--- The seats `given` are returned as `now`, in the same order, and no counter has fallen.
+-- The seats `given` are returned as the seats `now`, in the same order, and no counter of a seat has fallen.
 abbrev pub AreBack : Option Board → List BoardSeat → List BoardSeat → Type 0
 AreBack None given now = (given ≡ []) × (now ≡ [])
 AreBack (Some b) given now = AreRisen b given now
@@ -74,14 +75,14 @@ IsSeated None None = Unit {0}
 IsSeated (Some b) (Some s) = WorksAt b s
 IsSeated board seat = ⊥
 
--- If there is a board, seat t is seat s after n more documents were read. Without a board, seat t equals seat s.
+-- If there is a board, seat t is seat s after n more documents were read. If there is no board, seat t equals seat s.
 abbrev pub HasRead : Option Board → ℕ → Option BoardSeat → Option BoardSeat → Type 0
 HasRead None n s t = t ≡ s
 HasRead (Some b) n (Some s) (Some t) =
     WorksAt b t × (t.number ≡ s.number) × (t.read ≡ s.read + n) × (t.settled ≡ s.settled)
 HasRead (Some b) n s t = ⊥
 
--- The seat's read counter would exceed its maximum with n more documents.
+-- After n more read documents, the seat's read counter would exceed its maximum.
 abbrev pub IsFullFor : ℕ → Option BoardSeat → Type 0
 IsFullFor n None = ⊥
 IsFullFor n (Some s) = most < s.read + n
@@ -91,7 +92,8 @@ abbrev pub HasRoom : Option Board → ℕ → Option BoardSeat → Type 0
 HasRoom (Some b) n (Some s) = s.settled + n ≤ s.read
 HasRoom board n seat = Unit {0}
 
--- If there is a board, seat t is seat s after z - a more documents were settled. Without a board, seat t equals seat s.
+-- If there is a board, seat t is seat s after z - a more documents were settled. If there is no board, seat t equals
+-- seat s.
 abbrev pub HasSettled : Option Board → ℕ → ℕ → Option BoardSeat → Option BoardSeat → Type 0
 HasSettled None a z s t = t ≡ s
 HasSettled (Some b) a z (Some s) (Some t) =
@@ -99,7 +101,7 @@ HasSettled (Some b) a z (Some s) (Some t) =
 HasSettled (Some b) a z s t = ⊥
 
 -- If there is a board, seat t is seat s after z - a more documents were settled. The read counter of t is at least the
--- read counter of s. If the writer was not stopped, seat t shows z - a more read documents than seat s. Without a
+-- read counter of s. If the writer was not stopped, seat t shows z - a more read documents than seat s. If there is no
 -- board, seat t equals seat s.
 abbrev pub HasWritten : Option Board → ℕ → ℕ → Option Halt → Option BoardSeat → Option BoardSeat → Type 0
 HasWritten None a z stopped s t = t ≡ s
@@ -108,7 +110,7 @@ HasWritten (Some b) a z stopped (Some s) (Some t) =
     × (stopped ≡ None → t.read + a ≡ s.read + z)
 HasWritten (Some b) a z stopped s t = ⊥
 
--- The halt with which a writer's step ended, if the step did not succeed.
+-- The halt (the reason to end early) in the result of a writer's step, if the step failed.
 abbrev pub halt_in : Result (Unit {0}) Halt → Option Halt
 halt_in (Ok done) = None
 halt_in (Err halt) = Some halt

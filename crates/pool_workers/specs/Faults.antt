@@ -1,4 +1,4 @@
--- The errors with which a run of the pool may fail, as specified in docs/PROFILE.md, "The pool".
+-- Defines the errors with which a run of the pool may fail, as specified in docs/PROFILE.md, "The pool".
 use Rattle.std.specs.Prelude.{◌≡◌, ◌⊎◌, Option, Some}
 use Rattle.repl_peer.specs.declared.fault.TargetFault.{TargetFault}
 use Rattle.repl_peer.specs.declared.fault.TargetFault.TheVariants as refusals
@@ -8,8 +8,8 @@ use Rattle.pool_workers.specs.declared.fault.Halt.TheVariants as halts
 use Rattle.pool_workers.specs.declared.fault.PoolFault.{PoolFault}
 use Rattle.pool_workers.specs.declared.fault.PoolFault.TheVariants as faults
 
--- The errors that a run with a valid plan may return. The error is `Halted` only if the gate allows the halt, and
--- `BoardFull` only if `may_fill` is true. The error is never `Hole`.
+-- The errors that a run with a valid plan may return. The error is `Halted` only if the gate may stop a worker at the
+-- point that the error names, and `BoardFull` only if `may_fill` is true. The error is never `Hole`.
 abbrev pub IsLateOn : Type 0 → (Place → Type 0) → PoolFault → Type 0
 IsLateOn may_fill may_stop faults.NoWorkers = ⊥
 IsLateOn may_fill may_stop faults.TooManyWorkers = ⊥
@@ -22,7 +22,7 @@ IsLateOn may_fill may_stop fault = Unit {0}
 
 -- ---- errors from workers' halts
 
--- The errors with which a worker's call on the target of a run may fail.
+-- The errors with which a worker's call on the run's target may fail.
 abbrev pub IsStepFault : TargetFault → Type 0
 IsStepFault (refusals.Gap expected) = Unit {0}
 IsStepFault refusals.ForeignParcel = Unit {0}
@@ -48,8 +48,8 @@ fault_of halts.Memory = faults.Memory
 fault_of halts.Lost = faults.Memory
 
 -- The reasons for which a worker may halt. A worker halts with `Stopped` only if the gate may stop a worker at the
--- halt's place, and with `BoardFull` only if `may_fill` is true. If a call on the target failed, the error satisfies
--- `IsStepFault`.
+-- halt's place, that is, the point at which the worker called the gate. A worker halts with `BoardFull` only if
+-- `may_fill` is true. If a call on the target failed, the error satisfies `IsStepFault`.
 abbrev pub AllowsOn : Type 0 → (Place → Type 0) → Halt → Type 0
 AllowsOn may_fill may_stop (halts.Stopped place) = may_stop place
 AllowsOn may_fill may_stop (halts.Refused fault) = IsStepFault fault
@@ -70,7 +70,7 @@ SaysFull count board halt = Unit {0}
 abbrev pub SaysNoFull : Halt → Type 0
 SaysNoFull halt = SaysFull ⊥ ⊥ halt
 
--- The error of a run is the error of one of the halts a, b and c.
+-- The error of a run is the error that `fault_of` gives for one of the halts a, b and c.
 abbrev pub IsOneFault : Option Halt → Option Halt → Option Halt → PoolFault → Type 0
 IsOneFault a b c fault =
     (halt : Halt) × (fault ≡ fault_of halt) × ((a ≡ Some halt) ⊎ ((b ≡ Some halt) ⊎ (c ≡ Some halt)))

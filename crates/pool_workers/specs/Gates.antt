@@ -1,4 +1,4 @@
--- The meaning of a gate's result, as specified in docs/PROFILE.md, "The pool".
+-- Defines the meaning of a gate's result, as specified in docs/PROFILE.md, "The pool".
 use Rattle.pool_workers.specs.declared.gate.Turn.{Turn}
 use Rattle.pool_workers.specs.declared.gate.Turn.TheVariants.{Go, Stop}
 

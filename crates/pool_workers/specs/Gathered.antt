@@ -1,4 +1,4 @@
--- What is known after the workers of a run have ended, as specified in docs/PROFILE.md, "The pool".
+-- Defines what is known after the workers of a run have ended, as specified in docs/PROFILE.md, "The pool".
 use Rattle.std.specs.Prelude.{◌≡◌, ◌⊎◌, ℕ, length, sum, Option, None, Some, IfSome}
 use Rattle.crossbeam_channel.specs.Claims.{view}
 use Rattle.pool_workers.specs.Faults.{AllowsOn, Allows}

@@ -1,4 +1,4 @@
--- The target that the lock of a run protects, as specified in docs/PROFILE.md, "The pool".
+-- Defines statements about the target that the lock of a run protects, as specified in docs/PROFILE.md, "The pool".
 use Rattle.std.specs.Prelude.{◌≡◌, ℕ, Bool, List, Option, Some}
 use Rattle.rev_tree.specs.declared.origin.SessionId.{SessionId}
 use Rattle.doc_json.specs.Document.{Document}
@@ -15,21 +15,21 @@ use Rattle.pool_workers.specs.Paging.{KeepsPages}
 abbrev pub IsAnswerOf : DatabaseValue → ParcelValue → Type 0
 IsAnswerOf source p = p ≡ open_revs source p.asked
 
--- The target has the run's session. The run's session has the source's life, and its goal is the source's update
--- sequence.
+-- The target's sessions include the session of the run. The life of the run's session is the source's life, and the
+-- session's goal is the source's update sequence.
 abbrev pub HasRun : DatabaseValue → SessionId → List SessionValue → Type 0
 HasRun source run sessions =
     (s : SessionValue) × (session_in sessions run ≡ Some s) × (s.life ≡ source.life) × (s.goal ≡ source.update_seq)
 
 module _ {F : Type 0} (refuses : F → Document → Bool) where
-  -- The target `now` has the filter of the target `given`. Only calls of the run with messages of the source have
-  -- changed the peer `given` into the peer `now`.
+  -- The target `now` has the same filter as the target `given`. The peer `now` results from the peer `given` by calls
+  -- of the run with messages of the source, and by no other calls.
   abbrev pub GrownPeer : DatabaseValue → Choice → SessionId → F × PeerValue → F × PeerValue → Type 0
   GrownPeer source chosen run given now = (now.0 ≡ given.0) × IsGrown (refuses given.0) source chosen run given.1 now.1
 
-  -- The target while a run is in progress. During a run, only calls of the run have changed the given peer, and the
-  -- target has the run's session. The session has read `total` documents, the session's windows are pages of the
-  -- source, and the plan allows `more` windows.
+  -- States what holds for the target while a run is in progress. During a run, only calls of the run have changed the
+  -- given peer, and the target has the run's session. The session has read `total` documents, the session's windows are
+  -- pages of the source, and the plan allows `more` windows.
   abbrev pub TargetKeeps : DatabaseValue → Plan → Option ((F × PeerValue) × SessionId) → SessionId → ℕ → Option ℕ
       → F × PeerValue → Type 0
   TargetKeeps source plan given session total more now =

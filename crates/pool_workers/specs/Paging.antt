@@ -1,5 +1,5 @@
--- The windows that a run of the pool has stored so far, as specified in docs/PROFILE.md, "Goal and windows" and "The
--- pool".
+-- Defines statements about the windows that a run of the pool has stored so far, as specified in docs/PROFILE.md, "Goal
+-- and windows" and "The pool".
 use Rattle.std.specs.Prelude.{◌≡◌, ℕ, ◌+◌, ◌<◌, Bool, true, List, [], length, Option, Some, None}
 use Rattle.rev_tree.specs.declared.origin.SessionId.{SessionId}
 use Rattle.couch_base.specs.Lists.{Among}
@@ -20,14 +20,14 @@ AllowsMore None n more = more ≡ None
 AllowsMore (Some stop_after) n None = ⊥
 AllowsMore (Some stop_after) n (Some more) = n + more ≡ stop_after
 
--- If the number of windows is limited, `less` is `more` minus one.
+-- If the number `more` of further windows is limited, `less` is `more` minus one.
 abbrev pub IsOneLess : Option ℕ → Option ℕ → Type 0
 IsOneLess None less = less ≡ None
 IsOneLess (Some more) None = ⊥
 IsOneLess (Some more) (Some less) = more ≡ less + 1
 
--- Each window of a list is the page of the source's selected feed that begins at the window's lower bound. The plan
--- allows `more` further windows.
+-- Each window of a list is the page of the source's selected feed that begins at the window's lower bound. After the
+-- windows of the list, the plan allows `more` further windows.
 abbrev pub HasPages : DatabaseValue → Plan → Option ℕ → List WindowValue → Type 0
 HasPages source plan more windows =
     ((w : WindowValue) → Among w windows → IsNext source plan w) × AllowsMore plan.stop_after (length windows) more

@@ -1,4 +1,4 @@
--- The rule of the channel of parcels, as specified in docs/PROFILE.md, "The pool".
+-- Defines the rule of the channel of parcels, as specified in docs/PROFILE.md, "The pool".
 use Rattle.std.specs.Prelude.{◌≡◌, ◌+◌, ℕ, List, [], ◌∷◌, ◌++◌, length}
 use mathlib.Core.Option.{some}
 use lib.ListN.{get_elem?}

@@ -17,8 +17,8 @@ use Rattle.pool_workers.specs.Parcels.{parcel_view}
 use Rattle.pool_workers.specs.Windows.{window_view}
 use Rattle.pool_workers.specs.Workers.{FetcherKnows, WriterKnows}
 
--- What the caller's thread has before the thread starts the workers. Before a run, the caller's thread has capacity for
--- each fetcher's count, the complete passes of both unused channels, and all parts of the ledger. The ledger's total is
+-- What the caller's thread has before the thread starts the workers. Before a run, the caller's thread has the complete
+-- passes of both unused channels, all parts of the ledger, and capacity for each fetcher's count. The ledger's total is
 -- 0. Before a run with a board, the caller's thread has a seat for each writer.
 pub record IsReady {S L : Type 0} (channels : Channels S) (board : Option Board) (workers : ℕ) (o : Owned S L) : Type 0
   where

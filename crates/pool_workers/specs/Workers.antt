@@ -1,4 +1,4 @@
--- What a worker of a run knows between two messages, as specified in docs/PROFILE.md, "The pool".
+-- Defines what a worker of a run knows between two messages, as specified in docs/PROFILE.md, "The pool".
 use Rattle.std.specs.Prelude.{◌≡◌, ◌+◌, ℕ, List, [], ◌∷◌, ◌++◌, map, length, Option, None, option_to_list}
 use Rattle.crossbeam_channel.specs.Claims.{view}
 use Rattle.progress_board.specs.declared.board.Board.{Board}
@@ -18,9 +18,9 @@ amounts xs = weigh (λ n a. a) xs
 abbrev pub names : List (ℕ × ℕ) → List ℕ
 names xs = map (λ (x : ℕ × ℕ). x.0) xs
 
--- What a fetcher knows between two messages. If a fetcher was not stopped, its count is the number of documents of the
--- parcels that it sent. If a fetcher was not stopped, it sent a parcel for each window that it took, except for windows
--- in progress.
+-- What a fetcher knows between two messages. If a fetcher was not stopped, the fetcher's count is the number of
+-- documents of the parcels that the fetcher sent. If a fetcher was not stopped, the fetcher sent a parcel for each
+-- window that the fetcher took, except for windows in progress.
 abbrev pub FetcherKnows : {S : Type 0} → List ℕ → Fetcher S → Type 0
 FetcherKnows in_hand f =
     (view f.windows ≡ window_view 1 0 0 (view f.windows).taken)
@@ -29,7 +29,7 @@ FetcherKnows in_hand f =
     × (f.stopped ≡ None → (f.fetched ≡ amounts (view f.parcels).sent)
     × ((view f.windows).taken ≡ names (view f.parcels).sent ++ in_hand))
 
--- What a fetcher knows between counting a parcel and sending it.
+-- What a fetcher knows after it has counted a parcel, and before it sends the parcel.
 abbrev pub HasCounted : {S : Type 0} → ℕ × ℕ → Fetcher S → Type 0
 HasCounted x f =
     (view f.windows ≡ window_view 1 0 0 (view f.windows).taken)
@@ -39,9 +39,9 @@ HasCounted x f =
     × (f.fetched ≡ amounts (view f.parcels).sent + x.1)
     × ((view f.windows).taken ≡ names (view f.parcels).sent ++ x.0 ∷ [])
 
--- What a writer knows between two messages. If a writer was not stopped, it has counted all received parcels, and its
--- share of the ledger is the number of these parcels' documents. The count and the share do not include parcels in
--- progress.
+-- What a writer knows between two messages. If a writer was not stopped, the writer has counted all received parcels,
+-- and the writer's share of the ledger is the number of these parcels' documents. The count and the share do not
+-- include parcels in progress.
 abbrev pub WriterKnows : {S L : Type 0} → List (ℕ × ℕ) → Writer S L → Type 0
 WriterKnows in_hand w =
     (view w.parcels ≡ parcel_view 1 [] (view w.parcels).got)
@@ -49,8 +49,8 @@ WriterKnows in_hand w =
     × (w.stopped ≡ None → (w.got + length in_hand ≡ length (view w.parcels).got)
     × (w.share.amount + amounts in_hand ≡ amounts (view w.parcels).got))
 
--- The writer's seat shows the documents of the writer's share of the ledger, in addition to the documents that the seat
--- `given` shows (`HaveShown`).
+-- The writer's seat shows the documents that the seat `given` shows, and in addition the documents of the writer's
+-- share of the ledger (`HaveShown`).
 abbrev pub WriterShows : {S L : Type 0} → Option Board → Option BoardSeat → Writer S L → Type 0
 WriterShows board given w =
     AreBack board (option_to_list given) (option_to_list w.seat)

@@ -54,7 +54,8 @@ pub enum PoolFault {
     /// A step failed.
     #[error(transparent)]
     Refused(TargetFault),
-    /// The gate returned `Stop` at the place that the variant names.
+    /// The gate returned `Stop` at the place (the stage that a worker had reached with a window) that the variant
+    /// names.
     #[error("stopped by the gate")]
     Halted(Place),
     /// The first leaf of the source's feed above the session's start that the target does not cover after a run. No run

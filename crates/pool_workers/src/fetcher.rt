@@ -171,8 +171,8 @@ impl<F: WriteFilter, S: SourceBrand, T: TargetBrand<F>, L: Ledger, G: Gate, R: W
         self.target.lock(self.rt).diff(self.alloc, page)
     }
 
-    /// Counts the source's documents for the leaves of a page that the target lacks. The call fails if the gate stops
-    /// the fetcher or an allocation fails.
+    /// Counts the documents that the source has for the leaves of a page that the target lacks. The call fails if the
+    /// gate stops the fetcher or an allocation fails.
     fn bring(&self, number: u64, page: Paged<S>) -> Result<Found<S>, Halt>
         requires source { S.source ≡ self.now.source.now.1.db }
         ensures allowed { IfErr result (Allows (G.may_stop self.now.gate.now)) }
@@ -190,7 +190,7 @@ impl<F: WriteFilter, S: SourceBrand, T: TargetBrand<F>, L: Ledger, G: Gate, R: W
         Ok(fetched)
     }
 
-    /// Fetches one window and sends its parcel.
+    /// Fetches one window, and sends the parcel of this window.
     fn fetch(&self, fetcher: &mut Fetcher<S>, number: u64, page: Paged<S>)
         requires source { S.source ≡ self.now.source.now.1.db }
         requires seat { IsSeatAt (sends_on self.now.channels.now.to_writers) fetcher.old.parcels }

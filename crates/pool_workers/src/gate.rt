@@ -28,15 +28,15 @@ pub enum Turn {
     Stop,
 }
 
-/// Decides whether a worker continues at a place. Workers call the gate without a lock, possibly from several threads.
-/// The gate may block.
+/// Decides whether a worker continues at a place, which is a stage that the worker has reached with a window. Workers
+/// call the gate without a lock, possibly from several threads. The gate may block.
 pub trait Gate {
     ghost use Rattle.pool_workers.specs.Gates.{Stops};
 
-    /// The set of places at which the gate may stop a worker.
+    /// The set of places (stages that workers reach with a window) at which the gate may stop a worker.
     ghost may_stop: { Self → Place → Type 0 };
 
-    /// Returns whether the worker that has reached a place continues.
+    /// Returns whether a worker that has reached the given place continues with its work.
     fn at<R: Wait>(&self, rt: &R, place: Place) -> Turn
         ensures { Stops result (may_stop self.now place) };
 

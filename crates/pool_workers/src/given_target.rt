@@ -41,8 +41,8 @@ impl<F: WriteFilter, T: TargetBrand<F>> GivenTarget<F, T> {
     }
 
     /// Returns the request for the leaves of a page that the given target lacked, if the update sequence of the given
-    /// target was 0. The request then has all leaves of the page's rows, and the call needs no lock. Otherwise returns
-    /// `None`.
+    /// target was 0. If the update sequence was 0, the request has all leaves of the page's rows, and the call needs no
+    /// lock. Otherwise returns `None`.
     pub fn diff<S: SourceBrand>(
         &self,
         alloc: Global,

@@ -20,7 +20,7 @@ use std::marker::{Model, PhantomData};
 const HEAP_STEP: usize = 512 * 1024;
 
 /// The size in bytes of the block that `keep_heaps` frees. After a block of `HEAP_KEPT` bytes was freed, a heap may
-/// keep twice this number of free bytes at its end.
+/// keep twice this number of free bytes at the end of the heap.
 const HEAP_KEPT: usize = 1024 * 1024;
 
 /// A page of the source's feed that was read for the run's plan, with only the rows of selected documents.

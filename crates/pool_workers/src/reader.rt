@@ -22,7 +22,7 @@ use std::sync::ledger::Ledger;
 const MOST_AHEAD: u64 = 8;
 
 /// Pages that were read in order and must be sent, and copies of these pages that must be stored. The field `hi` is the
-/// end of the last page, and the field `stopped` is the reason if reading failed.
+/// sequence at which the last page ends, and the field `stopped` is the reason if reading failed.
 #[derive(Drop)]
 struct Ahead<S: SourceBrand> {
     pages: Vec<Paged<S>>,
@@ -183,9 +183,9 @@ impl<F: WriteFilter, S: SourceBrand, T: TargetBrand<F>, L: Ledger, G, R: Wait> C
         ahead
     }
 
-    /// Reads at most `most` pages above a sequence, stores all pages while it holds the target's lock, and then sends
-    /// the pages. The call sends the stored pages even if storing a later page fails. Returns the end of the last page,
-    /// and the number of the next window.
+    /// Reads at most `most` pages above a sequence, stores all pages while the call holds the target's lock, and then
+    /// sends the pages. The call sends the stored pages even if storing a later page fails. Returns the sequence at
+    /// which the last page ends, and the number of the next window.
     pub fn read_some(
         &self,
         windows: &mut WindowPass<S>,
@@ -227,8 +227,9 @@ impl<F: WriteFilter, S: SourceBrand, T: TargetBrand<F>, L: Ledger, G, R: Wait> C
         }
     }
 
-    /// Reads windows from a start until the goal or the plan's limit is reached, stores each window at the target, and
-    /// sends each window. The call reads one window first, then two, then four, and then eight windows at a time.
+    /// Reads windows from a start until the run's goal (a sequence) or the plan's limit is reached, stores each window
+    /// at the target, and sends each window. The call reads one window first, then two, then four, and then eight
+    /// windows at a time.
     pub fn read_windows(&self, start: u64, windows: &mut WindowPass<S>) -> Option<Halt>
         requires source { S.source ≡ self.now.source.now.1.db }
         requires plan { S.plan ≡ self.now.plan.now }

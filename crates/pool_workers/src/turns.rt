@@ -144,8 +144,8 @@ impl<F: WriteFilter, S: SourceBrand, T: TargetBrand<F>, L: Ledger, G: Gate, R: W
         pair
     }
 
-    /// Reads windows from a start until the goal or the plan's limit is reached. The call stores each window at the
-    /// target, and takes the window through both channels.
+    /// Reads windows from a start until the run's goal (a sequence) or the plan's limit is reached. The call stores
+    /// each window at the target, and takes the window through both channels.
     fn read_in_turn(
         &self,
         start: u64,

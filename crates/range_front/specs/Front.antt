@@ -1,12 +1,13 @@
--- Fronts of windows and their low water, as specified in docs/PROFILE.md, "Windows and low water".
+-- Defines fronts, which are lists of adjacent windows, and their low water, as specified in docs/PROFILE.md, "Windows
+-- and low water".
 use Rattle.std.specs.Prelude.{◌≡◌, ℕ, ◌<◌, ◌^◌, ◌+◌, Bool, false, true, ◌&&◌, ◌==◌, nat_le, if◌then◌else◌, List, [], ◌∷◌, ◌++◌, Result, Ok, Err, map, take_while, refl}
 use Rattle.std.specs.Coded.{Coded, code_by, coded×, coded_ℕ, coded_bool, coded_list}
 use Rattle.std.specs.List.{list_any, list_all}
 use Rattle.range_front.specs.declared.fault.FrontFault.{FrontFault}
 use Rattle.range_front.specs.declared.fault.FrontFault.TheVariants as faults
 
--- A window of a front: its upper bound, and whether the window is done. A window of a front begins at the end of the
--- previous window, or at the front's start if it is the first window.
+-- A window of a front: its upper bound, and whether the window is done. The first window of a front begins at the
+-- front's start, and each later window begins at the end of the previous window.
 pub record FrontWindow : Type 0 where
   pub hi : ℕ
   pub done : Bool
@@ -64,20 +65,21 @@ is_done f lo hi = list_any (λ s. (s.lo == lo) && ((s.hi == hi) && s.done)) (spa
 abbrev pub all_done : FrontValue → Bool
 all_done f = list_all (λ w. w.done) f.windows
 
--- The end of the last of the given windows, or `start` if there are no windows.
+-- The upper bound of the last of the given windows, or `start` if there are no windows.
 abbrev pub end_from : ℕ → List FrontWindow → ℕ
 end_from start [] = start
 end_from start (w ∷ ws) = end_from w.hi ws
 
--- The end of the last window of front f, or the start if f has no windows.
+-- The upper bound of the last window of front f, or the start of f if f has no windows.
 abbrev pub end_of : FrontValue → ℕ
 end_of f = end_from f.start f.windows
 
--- The end of the longest prefix of windows that are all done, or the start if the first window is not done.
+-- The upper bound of the last window in the longest prefix of windows that are all done, or the start if the first
+-- window is not done.
 abbrev pub low_water : FrontValue → ℕ
 low_water f = end_from f.start (take_while (λ w. w.done) f.windows)
 
--- The windows above the low water.
+-- The windows of a front above the front's low water.
 abbrev pub above_low_water : List FrontWindow → List FrontWindow
 above_low_water [] = []
 above_low_water (w ∷ ws) = if w.done then above_low_water ws else w ∷ ws
@@ -98,7 +100,7 @@ range_count f = run_count false (above_low_water f.windows)
 abbrev pub no_windows : ℕ → FrontValue
 no_windows start = record { start = start; windows = [] }
 
--- Front f after a window from the end of f to `hi` is appended. The new window is not done.
+-- Front f with a window from the end of f to `hi` appended. The new window is not done.
 abbrev pub appended : FrontValue → ℕ → FrontValue
 appended f hi = record f { windows = f.windows ++ record { hi = hi; done = false } ∷ [] }
 
@@ -107,7 +109,7 @@ appended f hi = record f { windows = f.windows ++ record { hi = hi; done = false
 abbrev pub append_answer : FrontValue → ℕ → Result (Unit {0}) FrontFault
 append_answer f hi = if nat_le hi (end_of f) then Err (faults.NotRising (end_of f)) else Ok tt
 
--- The given adjacent windows, the first of which begins at `from`, after the window (lo, hi] is marked as done.
+-- The given adjacent windows with the window (lo, hi] marked as done. The first of the given windows begins at `from`.
 abbrev pub finished_from : ℕ → List FrontWindow → ℕ → ℕ → List FrontWindow
 finished_from from [] lo hi = []
 finished_from from (w ∷ ws) lo hi =

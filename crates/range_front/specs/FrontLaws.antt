@@ -51,7 +51,7 @@ low_water-le-end_of f front = rw low_in-is (low-le-end f.start f.windows front.r
 pub low_water-is_end : (f : FrontValue) → (low_water f ≡ f.start) ⊎ ((lo : ℕ) × (is_done f lo (low_water f) ≡ true))
 low_water-is_end f = rw low_in-is (low-is-end f.start f.windows)
 
--- A sequence above the start and at or below the low water is in a done window.
+-- A sequence above the front's start and at or below the front's low water is in a done window.
 pub reached : (f : FrontValue) (q : ℕ) → IsFront f → f.start < q → q ≤ low_water f → (lo : ℕ) × (hi : ℕ) × (lo < q) × (q ≤ hi) × (is_done f lo hi ≡ true)
 reached f q front above under = reached-in f.start f.windows q front.rises above (rw low_in-is at under)
 
@@ -85,7 +85,7 @@ bounds-finished f lo hi = bounds-finished_from f.start f.windows lo hi
 pub is_done-finished : (f : FrontValue) (lo hi a b : ℕ) → is_done (finished f lo hi) a b ≡ (is_done f a b || (is_window f lo hi && ((lo == a) && (hi == b))))
 is_done-finished f lo hi a b = done-finished_from f.start f.windows lo hi a b
 
--- A window that is done after a call of `finish` was done before, or is the finished window.
+-- A window that is done after a call of `finish` was done before the call, or is the window that the call finished.
 pub is_done-finished_cases : (f : FrontValue) (lo hi a b : ℕ) → is_done (finished f lo hi) a b ≡ true → (is_done f a b ≡ true) ⊎ ((lo ≡ a) × (hi ≡ b))
 is_done-finished_cases f lo hi a b done =
     elim (or_cases (is_done f a b) (is_window f lo hi && ((lo == a) && (hi == b))) (sym (is_done-finished f lo hi a b) ∙ done)) [

@@ -1,5 +1,5 @@
--- The stored form of a front: the ends of the windows, the low water, and the ranges of done windows above the low
--- water.
+-- Defines the stored form of a front: the ends of the windows, the low water, and the ranges of done windows above the
+-- low water.
 use Rattle.std.specs.Prelude.{◌≡◌, ◌⊎◌, ℕ, ◌<◌, Bool, false, ◌&&◌, ◌||◌, ◌==◌, nat_le, if◌then◌else◌, List, [], ◌∷◌, map}
 use Rattle.range_front.specs.declared.ranges.DoneRange.{DoneRange}
 use Rattle.range_front.specs.Front.{FrontWindow, FrontValue, IsFront}
@@ -63,7 +63,8 @@ joined mark rs lo hi = if mark == lo then absorbed hi rs else (mark, put_in rs l
 
 -- ---- the front
 
--- The windows with the ends `es`. The window that ends at `hi` is done exactly if `done hi` is true.
+-- The list of adjacent windows whose upper bounds are the list `es`. The window that ends at `hi` is done exactly if
+-- `done hi` is true.
 abbrev pub marked : (ℕ → Bool) → List ℕ → List FrontWindow
 marked done es = map (λ hi. record { hi = hi; done = done hi }) es
 

@@ -149,7 +149,7 @@ done-append from (w ∷ ws) hi a b = ap (λ r. (eqb from a && (eqb w.hi b && w.d
 
 -- ---- a finished window
 
--- Finishing a window does not change the end of the front's windows.
+-- Finishing a window does not change the sequence at which the front's windows end.
 pub end-finished : (from : ℕ) (ws : List FrontWindow) (lo hi : ℕ) → end_from from (finished_from from ws lo hi) ≡ end_from from ws
 end-finished from [] lo hi = refl
 end-finished from (w ∷ ws) lo hi =

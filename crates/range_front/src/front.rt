@@ -92,7 +92,7 @@ impl Front {
     ///
     /// # Errors
     ///
-    /// Checked in this order; after an error the front is unchanged:
+    /// The call checks for errors in this order, and leaves the front unchanged if it fails:
     ///
     /// - `NotRising`: the bound `hi` is not above the front's end.
     /// - `Memory`: an allocation failed.
@@ -127,9 +127,9 @@ impl Front {
     ///
     /// # Errors
     ///
-    /// Checked in this order; after an error the front is unchanged:
+    /// The call checks for errors in this order, and leaves the front unchanged if it fails:
     ///
-    /// - `NoSuchWindow`: there is no such window.
+    /// - `NoSuchWindow`: the front has no window `(lo, hi]`.
     /// - `AlreadyDone`: the window is already done.
     /// - `Memory`: no space was reserved, and an allocation failed.
     pub fn finish(&mut self, lo: u64, hi: u64) -> Result<(), FrontFault>

@@ -1,4 +1,4 @@
--- The command `backup`, as specified in docs/PROFILE.md, "Command lines", "Order of checks" and "Answers".
+-- Defines the command `backup`, as specified in docs/PROFILE.md, "Command lines", "Order of checks" and "Answers".
 use Rattle.std.specs.Prelude.{ℕ, List, [], ◌∷◌, ◌++◌, codes, decimal, Result, Ok}
 use Rattle.serde_json.specs.Data.{Data}
 use Rattle.script_engine.specs.Serving.{Answering}

@@ -1,5 +1,5 @@
--- The errors of a replication between consistent databases, and of a restore, as specified in docs/PROFILE.md, "Order
--- of checks" and "Names of refusals".
+-- Defines the errors of a replication between consistent databases, and of a restore, as specified in docs/PROFILE.md,
+-- "Order of checks" and "Names of refusals".
 use Rattle.std.specs.Prelude.{◌≡◌, Bool, true, false}
 use Rattle.script_databases.specs.declared.refusal.Refusal.{Refusal}
 use Rattle.script_databases.specs.declared.refusal.Refusal.TheVariants as why
@@ -25,8 +25,8 @@ FailsInPool progress why.AlreadyDone = Unit {0}
 FailsInPool progress why.Uncovered = Unit {0}
 FailsInPool progress refusal = FailsAlone refusal
 
--- The errors with which a replication may fail. If the first argument of `Fails` is true, one thread replicates,
--- otherwise the pool replicates.
+-- The errors with which a replication may fail. `Fails true` lists the errors of a replication by one thread, and
+-- `Fails false` lists the errors of a replication by the pool.
 abbrev pub Fails : Bool → Bool → Refusal → Type 0
 Fails true progress refusal = FailsAlone refusal
 Fails false progress refusal = FailsInPool progress refusal

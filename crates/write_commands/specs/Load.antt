@@ -1,4 +1,4 @@
--- The command `load`, as specified in docs/PROFILE.md, "Command lines", "Order of checks" and "Answers".
+-- Defines the command `load`, as specified in docs/PROFILE.md, "Command lines", "Order of checks" and "Answers".
 use Rattle.std.specs.Prelude.{◌⊎◌, ℕ, List, [], ◌∷◌, ◌++◌, codes, decimal, Option, Some, None, option_map, Result, Ok, Err}
 use Rattle.serde_json.specs.Data.{Data}
 use Rattle.serde_json.specs.Find.{get}
@@ -90,7 +90,8 @@ LoadsUntaken old db uuid doc told new =
     ⊎ (IsTaken old uuid → ⊥) × Does (doc >>= load_new old db uuid) old told new
 
 -- The result of `load` for a new database with a generated UUID. The document of a `load` line is parsed before the
--- line draws an id. If the document is valid, the id is drawn, even if an allocation fails later.
+-- line takes the next generated id. If the document is valid, the line takes the next generated id, even if an
+-- allocation fails later.
 abbrev pub LoadsMade : State → List ℕ → Result (Option Document) Refusal → Told → State → Type 0
 LoadsMade old db (Ok doc) told new =
     LoadsUntaken (drawn_one old) db (next_made old) (Ok doc) told new ⊎ Refuses why.Memory (drawn_one old) told new

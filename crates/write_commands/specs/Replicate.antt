@@ -1,4 +1,4 @@
--- The command `replicate`, as specified in docs/PROFILE.md, "Command lines", "Order of checks" and "Answers".
+-- Defines the command `replicate`, as specified in docs/PROFILE.md, "Command lines", "Order of checks" and "Answers".
 use Rattle.std.specs.Prelude.{◌≡◌, ◌⊎◌, ◌<◌, ◌≤◌, ℕ, Bool, true, false, List, [], ◌∷◌, ◌++◌, codes, decimal, Option, Some, None, unwrap_or, option_map, Result, Ok, Err}
 use Rattle.serde_json.specs.Data.{Data}
 use Rattle.serde_json.specs.Find.{as_bool}
@@ -180,9 +180,9 @@ abbrev pub ending_of_watched : Result Watched PoolFault → Result Ending Refusa
 ending_of_watched (Ok watched) = Ok (Shown watched)
 ending_of_watched (Err fault) = ending_of_run (Err fault)
 
--- How a replication ended, or the error with which it failed. One thread replicates if the first argument of `EndsBy`
--- is true. If the first argument of `EndsBy` is false, the pool replicates, with a board if the second argument is
--- true.
+-- How a replication ended, or the error with which it failed. `EndsBy true` describes a replication by one thread.
+-- `EndsBy false true` describes a replication by the pool with a board, and `EndsBy false false` a replication by the
+-- pool without a board.
 abbrev pub EndsBy : Bool → Bool → State → List ℕ → List ℕ → PeerValue → PeerValue → Plan → Result Ending Refusal → State
     → Type 0
 EndsBy true progress old source target s t plan ending new =
@@ -211,8 +211,8 @@ ReplicatesChosen old ask both (Ok chosen) told new =
     × (told ≡ told_of (replicated_text (plan_of old ask.options chosen).session ending))
 ReplicatesChosen old ask both (Err refusal) told new = Refuses refusal (with_session old ask.options) told new
 
--- The result of `replicate` for two existing databases. A generated session id is drawn before the selection is built,
--- and building the selection may run out of memory.
+-- The result of `replicate` for two existing databases. If the line gives no session id, the line takes the next
+-- generated id before the selection is built. Building the selection may run out of memory.
 abbrev pub ReplicatesBoth : State → ReplicateAsk → PeerValue × PeerValue → Told → State → Type 0
 ReplicatesBoth old ask both told new =
     (chosen : Result Choice Refusal) × GivesOrMemory chosen (choice_given ask.doc_ids)
@@ -233,7 +233,7 @@ ReportsReplication old ask told new = ReplicatesFound old ask (both_of old ask) 
 
 -- ---- the guarantee of `replicate`, as specified in docs/PROFILE.md, "Tied databases"
 
--- The guarantee of a session that reached the session's goal and recorded sequence n. Sequence n is the source's update
+-- The guarantee for a session that reached its goal and recorded sequence n. Sequence n is the source's update
 -- sequence, and the target covers each leaf of the source's selected feed.
 abbrev pub CoversIfDone : State → List ℕ → List ℕ → Choice → Ending → Type 0
 CoversIfDone s source target chosen (Done report) = CoversUpTo s source target chosen report.recorded

@@ -1,4 +1,4 @@
--- The command `restore`, as specified in docs/PROFILE.md, "Command lines", "Order of checks" and "Answers".
+-- Defines the command `restore`, as specified in docs/PROFILE.md, "Command lines", "Order of checks" and "Answers".
 use Rattle.std.specs.Prelude.{◌≡◌, ℕ, List, [], ◌∷◌, ◌++◌, codes, decimal, Result, Ok, Err}
 use Rattle.serde_json.specs.Data.{Data}
 use Rattle.script_engine.specs.Serving.{Told, Answering}

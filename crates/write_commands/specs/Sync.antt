@@ -1,4 +1,4 @@
--- The command `sync`, as specified in docs/PROFILE.md, "Command lines" and "Answers".
+-- Defines the command `sync`, as specified in docs/PROFILE.md, "Command lines" and "Answers".
 use Rattle.std.specs.Prelude.{◌≡◌, ◌⊎◌, ℕ, false, List, [], ◌∷◌, ◌++◌, codes, Option, None, unwrap_or, Result, Ok, Err}
 use Rattle.serde_json.specs.Data.{Data}
 use Rattle.serde_json.specs.Find.{as_bool}

@@ -59,9 +59,9 @@ pub struct Options {
 /// How a successful replication ended.
 #[derive(Drop)]
 enum Ending {
-    /// The replication reached its goal.
+    /// The replication reached its goal, which is a sequence.
     Done(Report),
-    /// The replication reached its goal, and the command read the progress board after the end.
+    /// The replication reached its goal, and the command read the progress board after the replication's end.
     Shown(Watched),
     /// The plan's limit stopped the replication, and every window up to the variant's sequence is done.
     Stopped(u64),
