@@ -122,8 +122,8 @@ pub(crate) static CARRIED: Rows = &[
     (Call::Leaves(B, "x2"), LEAVES_X2),
 ];
 
-/// Calls that read what the first session changed at a target that refuses two documents. The results are the same for
-/// every order in which the session's windows become done.
+/// Calls that read the source and the target after the first session into a target that refuses two documents. The
+/// results are the same for every order in which the session's windows become done.
 pub(crate) static SIFTED: Rows = &[
     (
         Call::Entry(B, S1),
