@@ -187,7 +187,7 @@ abbrev pub CutShort : (Document → Bool) → WorldValue → Step → WorldValue
 CutShort refuses w (Settle session parcel) now = IsStopped refuses w session (slice_get w.bag.parcels parcel) now
 CutShort refuses w step now = now ≡ w
 
--- The world after a list of steps in which one step ran out of memory. The steps before the failed step have their
+-- The world after a list of steps stopped at a step that ran out of memory. The steps before the failed step have their
 -- complete effects, and the failed step has an effect that `CutShort` allows.
 abbrev pub StoppedIn : (Document → Bool) → WorldValue → List Step → WorldValue → Type 0
 StoppedIn refuses w steps now =

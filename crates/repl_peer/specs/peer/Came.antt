@@ -1,4 +1,4 @@
--- Defines the revisions that a write adds, computed from the form in which the peer stores these revisions.
+-- Defines the revisions that a write adds, and when a newest revision and a count describe a list of revisions.
 use Rattle.std.specs.Prelude.{◌≡◌, ℕ, List, ◌∷◌, length, Some}
 use Rattle.std.specs.Option.{option_to_list}
 use Rattle.rev_core.specs.Rev.{RevId}
