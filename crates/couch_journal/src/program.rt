@@ -16,7 +16,7 @@ use std::env::Env;
 use std::io;
 use std::io::{Eprint, Input, Print, Printer, Write};
 
-/// Runs the program, and returns its exit status. The exit status is 0 if the task succeeded, 1 if something is
+/// Runs the program, and returns its exit status. The exit status is 0 for success, help or version, 1 if something is
 /// missing, and 2 for a usage error. The exit status is 3 if the input is damaged or does not have the form that the
 /// task reads, or if reading, writing or an allocation failed.
 pub(crate) fn run_program<H: AllocGlobal + Env + Input + Print + Eprint>(rt: &H) -> u8

@@ -154,7 +154,7 @@ fn copied_docs(alloc: Global, docs: &Docs<'_>) -> Result<Vec<DocLeaves>, AllocEr
     Ok(copies)
 }
 
-/// Returns each document that the rows name once, with the leaves of all rows of this document.
+/// Returns one entry for each document that the rows name, with the leaves of all rows of this document.
 fn merged(alloc: Global, rows: &[DocLeaves]) -> Result<Vec<DocLeaves>, AllocError>
     ensures { IfOk result (λ v. docs_view v.items ≡ merged (docs_view rows.now)) }
 {

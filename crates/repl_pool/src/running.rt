@@ -34,7 +34,7 @@ pub struct Ran<F: WriteFilter> {
     pub source: Peer<F>,
     /// The target.
     pub target: Peer<F>,
-    /// The number of documents that each fetcher fetched. The list is empty if no fetcher was started.
+    /// The number of documents that each fetcher counted. The list is empty if no fetcher was started.
     pub fetched: Vec<u64>,
     /// The board seats that the caller gave to the writers, in the given order. The list is empty after `run`, because
     /// `run` has no board.
@@ -293,7 +293,7 @@ fn run_with<F: WriteFilter + Send + Sync, G: Gate + Sync, R: Threads + Wait + Sy
 ///
 /// If the run succeeds, the target covers each leaf of the source's selected feed above the session's start. A
 /// successful call returns the report of the session, which began at the common checkpoint and has recorded the
-/// source's update sequence. The numbers of documents that the fetchers fetched add up to the report's number of
+/// source's update sequence. The numbers of documents that the fetchers counted add up to the report's number of
 /// documents read. After a successful run that started with an empty target, without refusing a document, the target
 /// has the source's revisions, parents and contents of leaves of each selected document. If the run succeeds and the
 /// peers were consistent (docs/PROFILE.md, "Tied peers"), the target covers each leaf of the source's selected feed,
