@@ -26,7 +26,7 @@ IsStart Unfolded s S = IsTakeStart s S
 IsStart Leaves s S = ⊥
 IsStart Changes s S = ⊥
 
--- A document's beginning that ends with a run (bytes that are not stored): the complete text, the text without the
+-- A document's beginning that may have runs (bytes that are not stored): the complete text, the text without the
 -- runs, and the outputs for these two texts.
 pub record Cut : Type 0 where
   pub full : List ℕ

@@ -56,7 +56,7 @@ checkpoint_of source target chosen = checkpoint_between source target (rep_betwe
 abbrev pub start_between : PeerValue → PeerValue → Choice → ℕ
 start_between source target chosen = start_at (checkpoint_of source target chosen)
 
--- The scope of a new session. A new session's base is the session of the common checkpoint, and the session's goal is
+-- The scope of a new session. A new session's base is the session of the common checkpoint, and a new session's goal is
 -- the source's update sequence.
 abbrev pub scope_between : PeerValue → PeerValue → Choice → Scope
 scope_between source target chosen = record {
