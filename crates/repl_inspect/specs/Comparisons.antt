@@ -1,5 +1,5 @@
--- Defines the comparisons of documents that a source and a target have, as specified in docs/PROFILE.md, "Missing
--- revisions" and "Changes feed".
+-- Defines the comparisons of a source's documents with the documents at a target, as specified in docs/PROFILE.md,
+-- "Missing revisions" and "Changes feed".
 use Rattle.std.specs.Prelude.{List, map}
 use Rattle.couch_base.specs.Database.{Id, DatabaseValue, tree_of}
 use Rattle.couch_base.specs.Feed.{RowValue}
