@@ -6,6 +6,7 @@ ghost use Rattle.json_values.specs.LineView.{line_view};
 ghost use Rattle.json_values.specs.LineOrder.{IsOrdered};
 ghost use Rattle.json_values.specs.Plain.{ArePlain};
 
+use crate::capacities::LONG_TEXT;
 use crate::line::LineValue;
 use crate::plain_texts::PlainTexts;
 use std::marker::Model;
@@ -16,6 +17,8 @@ use std::marker::Model;
 pub struct Line<'a> {
     value: LineValue<'a>,
     plain: PlainTexts,
+    /// The length of the line's text, in bytes.
+    len: usize,
 }
 
 impl<'a> Model for Line<'a> {
@@ -36,13 +39,13 @@ impl<'a> Model for Line<'a> {
 }
 
 impl<'a> Line<'a> {
-    /// Creates a line from a JSON value.
-    pub(crate) fn new(value: LineValue<'a>, plain: PlainTexts) -> Line<'a>
+    /// Creates a line from a JSON value and the length of the line's text.
+    pub(crate) fn new(value: LineValue<'a>, plain: PlainTexts, len: usize) -> Line<'a>
         requires order { IsOrdered (line_view value) }
         requires plain { ArePlain plain (line_view value) }
         ensures { result ≡ value.entry }
     {
-        Line { value, plain }
+        Line { value, plain, len }
     }
 
     /// Creates a line whose value is an empty object.
@@ -53,7 +56,7 @@ impl<'a> Line<'a> {
             names: true,
             values: true,
         };
-        Line::new(LineValue::Object(&[]), plain)
+        Line::new(LineValue::Object(&[]), plain, 0)
     }
 
     /// Returns the value.
@@ -71,6 +74,7 @@ impl<'a> Line<'a> {
         LinePart {
             value: &self.value,
             plain: self.plain,
+            len: self.len,
         }
     }
 
@@ -83,6 +87,7 @@ impl<'a> Line<'a> {
             Some(value) => Some(LinePart {
                 value,
                 plain: self.plain,
+                len: self.len,
             }),
             None => None,
         }
@@ -95,6 +100,8 @@ impl<'a> Line<'a> {
 pub struct LinePart<'v, 'a> {
     value: &'v LineValue<'a>,
     plain: PlainTexts,
+    /// The length of the complete line's text, in bytes.
+    len: usize,
 }
 
 impl<'v, 'a> Model for LinePart<'v, 'a> {
@@ -130,5 +137,12 @@ impl<'v, 'a> LinePart<'v, 'a> {
         ensures { ArePlain result (line_view self.now) }
     {
         self.plain
+    }
+
+    /// Returns the length of the complete line's text in bytes if the text is long, or 0 if the text is short. The
+    /// compact form of the value is at most as long as the text. No contract depends on the returned length.
+    #[inline(always)]
+    pub fn long_len(&self) -> usize {
+        if self.len < LONG_TEXT { 0 } else { self.len }
     }
 }
