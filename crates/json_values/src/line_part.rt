@@ -1,5 +1,6 @@
 //! A line that was read, and the values inside it.
-ghost use Rattle.std.specs.Prelude.{◌≡◌, IsTrue, option_map};
+ghost use Rattle.std.specs.Prelude.{◌≡◌, ◌≤◌, ◌⊎◌, IsTrue, option_map};
+ghost use Rattle.json_values.specs.declared.capacities.TheConstants.{LONG_TEXT};
 ghost use Rattle.serde_json.specs.Data.{object, no_members};
 ghost use Rattle.serde_json.specs.Find.{get};
 ghost use Rattle.json_values.specs.LineView.{line_view};
@@ -140,9 +141,13 @@ impl<'v, 'a> LinePart<'v, 'a> {
     }
 
     /// Returns the length of the complete line's text in bytes if the text is long, or 0 if the text is short. The
-    /// compact form of the value is at most as long as the text. No contract depends on the returned length.
+    /// compact form of the value is at most as long as the text.
+    ///
+    /// The length is only a capacity to reserve, so the contract states its bounds and not its value.
     #[inline(always)]
-    pub fn long_len(&self) -> usize {
+    pub fn long_len(&self) -> usize
+        ensures { (result ≡ 0) ⊎ (LONG_TEXT ≤ result) }
+    {
         if self.len < LONG_TEXT { 0 } else { self.len }
     }
 }
