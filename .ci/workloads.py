@@ -82,11 +82,16 @@ def bodies(n):
         load("a", "doc-%d" % i, [digest(i)], items=[small(k) for k in range(200)]) for i in range(n)]
 
 
-def nested(n):
-    """A document of n small objects, in one line."""
-    items = [{"type": "order", "n": i, "name": "name of %d" % i, "tags": ["a", "b"], "at": {"y": i, "x": -i}, "ok": True}
+def nested(n, tags=lambda i: ["a", "b"]):
+    """A document of n small objects, in one line. Each object has the same tags."""
+    items = [{"type": "order", "n": i, "name": "name of %d" % i, "tags": tags(i), "at": {"y": i, "x": -i}, "ok": True}
              for i in range(10 ** 6, 10 ** 6 + n)]
     return [database("a", 1), load("a", "doc", [digest(0)], items=items)]
+
+
+def nested_varied(n):
+    """A document of n small objects, in one line. Objects that follow each other have different tags."""
+    return nested(n, lambda i: ["ab"[i % 2], "b"])
 
 
 def plain(n):

@@ -101,22 +101,23 @@ impl Body {
 pub fn read_body(alloc: Global, value: &Value) -> Result<Body, DocFault>
     ensures { GivesUnlessMemory result (body_read (view value.now)) }
 {
-    body_of(alloc, value, NONE_KNOWN)
+    body_of(alloc, value, NONE_KNOWN, 0)
 }
 
 /// Reads a JSON value inside a line as a body. The call returns the errors of `read_body`.
 pub fn read_line_body(alloc: Global, part: &LinePart<'_, '_>) -> Result<Body, DocFault>
     ensures { GivesUnlessMemory result (body_read (line_view part.now)) }
 {
-    body_of(alloc, part.value(), part.plain())
+    body_of(alloc, part.value(), part.plain(), part.long_len())
 }
 
 /// Reads a value as a body. The argument `plain` says which strings of the value need no escapes when they are written
-/// as JSON.
+/// as JSON, and `room` is the initial capacity for the body.
 fn body_of<'v, V: JsonValue<'v>>(
     alloc: Global,
     value: &'v V,
     plain: PlainTexts,
+    room: usize,
 ) -> Result<Body, DocFault>
 where
     V::Object: 'v,
@@ -133,7 +134,7 @@ where
     if value.has_fraction() {
         return Err(DocFault::Fraction);
     }
-    let text = written(alloc, value, plain)?;
+    let text = written(alloc, value, plain, room)?;
     Ok(Body::from_text(text))
 }
 
@@ -142,13 +143,14 @@ pub(crate) fn plain_body<'v, V: JsonValue<'v>>(
     alloc: Global,
     members: &'v V::Object,
     plain: PlainTexts,
+    room: usize,
 ) -> Result<Body, AllocError>
     requires exact { members_have_float (plain_members (V.members_seen members.now)) ≡ false }
     requires order { V.members_in_order members.now }
     requires plain { AreMembersPlain plain (V.members_seen members.now) }
     ensures body { IfOk result (λ b. b ≡ body_text (V.members_seen members.now)) }
 {
-    let text = plain_written::<V>(alloc, members, plain)?;
+    let text = plain_written::<V>(alloc, members, plain, room)?;
     Ok(Body::from_text(text))
 }
 
@@ -157,6 +159,7 @@ fn plain_written<'v, V: JsonValue<'v>>(
     alloc: Global,
     members: &'v V::Object,
     plain: PlainTexts,
+    room: usize,
 ) -> Result<ArcSlice<u8>, AllocError>
     requires exact { members_have_float (plain_members (V.members_seen members.now)) ≡ false }
     requires order { V.members_in_order members.now }
@@ -164,7 +167,7 @@ fn plain_written<'v, V: JsonValue<'v>>(
     ensures { IfOk result
         (λ v. IsWritten (arc_slice_items v) (object (plain_members (V.members_seen members.now)))) }
 {
-    let text = plain_text::<V>(alloc, members, plain)?;
+    let text = plain_text::<V>(alloc, members, plain, room)?;
     ArcSlice::from_vec(text)
 }
 
@@ -173,12 +176,13 @@ fn written<'v, V: JsonValue<'v>>(
     alloc: Global,
     value: &'v V,
     plain: PlainTexts,
+    room: usize,
 ) -> Result<ArcSlice<u8>, AllocError>
     requires exact { has_float (V.seen value.now) ≡ false }
     requires order { V.in_order value.now }
     requires plain { ArePlain plain (V.seen value.now) }
     ensures { IfOk result (λ v. IsWritten (arc_slice_items v) (V.seen value.now)) }
 {
-    let text = value_text(alloc, value, plain)?;
+    let text = value_text(alloc, value, plain, room)?;
     ArcSlice::from_vec(text)
 }

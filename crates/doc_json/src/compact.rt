@@ -20,36 +20,39 @@ use std::alloc::{AllocError, Global};
 /// that is up to 15 bytes smaller would take the same amount of memory from the allocator.
 const SHORT: usize = 136;
 
-/// Serializes the object of the members without a leading `_`. The buffer of the result has fewer than 32 unused bytes.
-/// If the serialized text is short and the allocation for a smaller buffer succeeds, the buffer has fewer than 16
-/// unused bytes.
+/// Serializes the object of the members without a leading `_`. The initial capacity of the buffer is at least `room`.
+/// The buffer of the result has fewer than 32 unused bytes. If the serialized text is short and the allocation for a
+/// smaller buffer succeeds, the buffer has fewer than 16 unused bytes.
 pub(crate) fn plain_text<'v, V: JsonValue<'v>>(
     alloc: Global,
     members: &'v V::Object,
     plain: PlainTexts,
+    room: usize,
 ) -> Result<Vec<u8>, AllocError>
     requires exact { members_have_float (plain_members (V.members_seen members.now)) ≡ false }
     requires order { V.members_in_order members.now }
     requires plain { AreMembersPlain plain (V.members_seen members.now) }
     ensures { IfOk result (λ v. IsWritten v.items (object (plain_members (V.members_seen members.now)))) }
 {
-    let mut out = Vec::with_capacity(alloc, SHORT)?;
+    let mut out = Vec::with_capacity(alloc, room.max(SHORT))?;
     push_plain::<V>(members, plain, &mut out)?;
     Ok(fitted(alloc, trimmed(out)))
 }
 
-/// Serializes a value. The buffer of the result has fewer than 32 unused bytes.
+/// Serializes a value. The initial capacity of the buffer is at least `room`. The buffer of the result has fewer than
+/// 32 unused bytes.
 pub(crate) fn value_text<'v, V: JsonValue<'v>>(
     alloc: Global,
     value: &'v V,
     plain: PlainTexts,
+    room: usize,
 ) -> Result<Vec<u8>, AllocError>
     requires exact { has_float (V.seen value.now) ≡ false }
     requires order { V.in_order value.now }
     requires plain { ArePlain plain (V.seen value.now) }
     ensures { IfOk result (λ v. IsWritten v.items (V.seen value.now)) }
 {
-    let mut out = Vec::with_capacity(alloc, SHORT)?;
+    let mut out = Vec::with_capacity(alloc, room.max(SHORT))?;
     value.push(plain, &mut out)?;
     Ok(trimmed(out))
 }

@@ -39,22 +39,23 @@ use std::alloc::Global;
 pub fn read_doc(alloc: Global, value: &Value) -> Result<Doc, DocFault>
     ensures { GivesUnlessMemory result (doc_read (view value.now)) }
 {
-    document_of(alloc, value, NONE_KNOWN)
+    document_of(alloc, value, NONE_KNOWN, 0)
 }
 
 /// Reads a JSON value inside a line as a document. The call returns the errors of `read_doc`.
 pub fn read_line_doc(alloc: Global, part: &LinePart<'_, '_>) -> Result<Doc, DocFault>
     ensures { GivesUnlessMemory result (doc_read (line_view part.now)) }
 {
-    document_of(alloc, part.value(), part.plain())
+    document_of(alloc, part.value(), part.plain(), part.long_len())
 }
 
 /// Reads a value as a document. The argument `plain` says which strings of the value need no escapes when they are
-/// written as JSON.
+/// written as JSON, and `room` is the initial capacity for the body.
 fn document_of<'v, V: JsonValue<'v>>(
     alloc: Global,
     value: &'v V,
     plain: PlainTexts,
+    room: usize,
 ) -> Result<Doc, DocFault>
 where
     V::Object: 'v,
@@ -81,7 +82,7 @@ where
     }
     let ancestry = ancestry?;
     let id = DocId::of_checked(alloc, id)?;
-    let body = plain_body::<V>(alloc, members, plain)?;
+    let body = plain_body::<V>(alloc, members, plain, room)?;
     Ok(Doc::new(id, ancestry, deleted, body))
 }
 

@@ -1,11 +1,13 @@
 //! A line that was read, and the values inside it.
-ghost use Rattle.std.specs.Prelude.{◌≡◌, IsTrue, option_map};
+ghost use Rattle.std.specs.Prelude.{◌≡◌, ◌≤◌, ◌⊎◌, IsTrue, option_map};
+ghost use Rattle.json_values.specs.declared.capacities.TheConstants.{LONG_TEXT};
 ghost use Rattle.serde_json.specs.Data.{object, no_members};
 ghost use Rattle.serde_json.specs.Find.{get};
 ghost use Rattle.json_values.specs.LineView.{line_view};
 ghost use Rattle.json_values.specs.LineOrder.{IsOrdered};
 ghost use Rattle.json_values.specs.Plain.{ArePlain};
 
+use crate::capacities::LONG_TEXT;
 use crate::line::LineValue;
 use crate::plain_texts::PlainTexts;
 use std::marker::Model;
@@ -16,6 +18,8 @@ use std::marker::Model;
 pub struct Line<'a> {
     value: LineValue<'a>,
     plain: PlainTexts,
+    /// The length of the line's text, in bytes.
+    len: usize,
 }
 
 impl<'a> Model for Line<'a> {
@@ -36,13 +40,13 @@ impl<'a> Model for Line<'a> {
 }
 
 impl<'a> Line<'a> {
-    /// Creates a line from a JSON value.
-    pub(crate) fn new(value: LineValue<'a>, plain: PlainTexts) -> Line<'a>
+    /// Creates a line from a JSON value and the length of the line's text.
+    pub(crate) fn new(value: LineValue<'a>, plain: PlainTexts, len: usize) -> Line<'a>
         requires order { IsOrdered (line_view value) }
         requires plain { ArePlain plain (line_view value) }
         ensures { result ≡ value.entry }
     {
-        Line { value, plain }
+        Line { value, plain, len }
     }
 
     /// Creates a line whose value is an empty object.
@@ -53,7 +57,7 @@ impl<'a> Line<'a> {
             names: true,
             values: true,
         };
-        Line::new(LineValue::Object(&[]), plain)
+        Line::new(LineValue::Object(&[]), plain, 0)
     }
 
     /// Returns the value.
@@ -71,6 +75,7 @@ impl<'a> Line<'a> {
         LinePart {
             value: &self.value,
             plain: self.plain,
+            len: self.len,
         }
     }
 
@@ -83,6 +88,7 @@ impl<'a> Line<'a> {
             Some(value) => Some(LinePart {
                 value,
                 plain: self.plain,
+                len: self.len,
             }),
             None => None,
         }
@@ -95,6 +101,8 @@ impl<'a> Line<'a> {
 pub struct LinePart<'v, 'a> {
     value: &'v LineValue<'a>,
     plain: PlainTexts,
+    /// The length of the complete line's text, in bytes.
+    len: usize,
 }
 
 impl<'v, 'a> Model for LinePart<'v, 'a> {
@@ -130,5 +138,16 @@ impl<'v, 'a> LinePart<'v, 'a> {
         ensures { ArePlain result (line_view self.now) }
     {
         self.plain
+    }
+
+    /// Returns the length of the complete line's text in bytes if the text is long, or 0 if the text is short. The
+    /// compact form of the value is at most as long as the text.
+    ///
+    /// The length is only a capacity to reserve, so the contract states its bounds and not its value.
+    #[inline(always)]
+    pub fn long_len(&self) -> usize
+        ensures { (result ≡ 0) ⊎ (LONG_TEXT ≤ result) }
+    {
+        if self.len < LONG_TEXT { 0 } else { self.len }
     }
 }

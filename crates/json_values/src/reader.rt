@@ -103,5 +103,5 @@ fn read_whole<'a>(
     if reader.next().is_some() {
         return Err(ReadFault::NotJson);
     }
-    Ok(Line::new(value, plain))
+    Ok(Line::new(value, plain, text.len()))
 }

@@ -15,10 +15,12 @@ ghost use Rattle.json_values.specs.Place.{tokens_at, closes_at, begins_at, begin
 
 use crate::capacities::Capacities;
 use crate::lexer::Lexer;
+use crate::line::LineValue;
 use crate::plain_texts::PlainTexts;
 use crate::run::is_space;
 use json::{Invalid, Token};
 use serde_json::Number;
+use std::cell::Cell;
 use std::marker::Model;
 
 /// The position in the JSON grammar at which the next token is read.
@@ -54,6 +56,8 @@ pub(crate) struct Tokens<'a> {
     lexer: Lexer<'a>,
     place: Place,
     capacities: Capacities,
+    /// The last array that was stored in the arena, if the text is long.
+    last_array: Cell<&'a [LineValue<'a>]>,
 }
 
 impl<'a> Model for Tokens<'a> {
@@ -204,6 +208,7 @@ impl<'a> Tokens<'a> {
             lexer: Lexer::new(text, room),
             place: Place::Fresh,
             capacities: Capacities::new(),
+            last_array: Cell::new(&[]),
         }
     }
 
@@ -325,6 +330,22 @@ impl<'a> Tokens<'a> {
         if self.lexer.is_long() {
             self.capacities.note(is_object, depth, len);
         }
+    }
+
+    /// Whether the text is long.
+    #[inline(always)]
+    pub(crate) fn is_long(&self) -> bool {
+        self.lexer.is_long()
+    }
+
+    /// Returns the array that the last call of `note_array` recorded. No contract depends on the array.
+    pub(crate) fn last_array(&self) -> &'a [LineValue<'a>] {
+        self.last_array.get()
+    }
+
+    /// Records an array that was stored in the arena.
+    pub(crate) fn note_array(&self, items: &'a [LineValue<'a>]) {
+        self.last_array.set(items);
     }
 
     /// Reads the closing bracket of an array, if the bracket is the next token.

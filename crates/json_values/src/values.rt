@@ -102,7 +102,7 @@ fn read_other<'a>(
                 return Err(ReadFault::NotJson);
             }
             let items = read_items(alloc, values, reader, depth - 1)?;
-            Ok(array(values, &items)?)
+            Ok(array(values, reader, &items)?)
         }
         Token::BeginObject => {
             if depth == 0 {
