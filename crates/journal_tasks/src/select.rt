@@ -113,7 +113,7 @@ impl Select {
         Ok(())
     }
 
-    /// Reads a line of the journal's first copy that has no checksum.
+    /// Reads a line of the journal's first copy. The line is not a checksum line (the line that ends a block).
     fn note(&mut self, line: &[u8]) -> Result<(), AllocError> {
         match entry_of(self.alloc, &mut self.scratch, line)? {
             Entry::State(leaves) => self.map.name(leaves),
@@ -190,7 +190,7 @@ impl Select {
         Ok(())
     }
 
-    /// Reads a line of the second copy, and appends the line to the output if the line is selected.
+    /// Reads a line of the journal's second copy, and appends the line to the output if the line is selected.
     fn second_line(&mut self, line: &[u8], text: &mut Vec<u8>) -> Result<(), AllocError> {
         if self.selected.get(self.next).copied() != Some(self.count.lines) {
             return Ok(());
