@@ -39,8 +39,8 @@ fn in_attachments(beginning: &[u8]) -> bool
     }
 }
 
-/// Returns the incomplete last member of the beginning of a document. Returns `None` if the last member is complete, or
-/// if the member `_revisions` does not precede the last member.
+/// Returns the last member in `beginning`, the first bytes of a document, if this member is incomplete. Returns `None`
+/// if the last member is complete, or if the member `_revisions` does not precede the last member.
 fn open_member(beginning: &[u8]) -> Option<&[u8]>
     ensures { IfSome result (λ member. Opens (drop 1 beginning.now) member.now) }
 {
