@@ -83,7 +83,8 @@ impl Select {
         self.blocks.lines()
     }
 
-    /// Whether the checksums do not confirm the complete first copy.
+    /// Whether the journal's first copy does not consist of `size` bytes in complete lines, or has a part that no right
+    /// checksum confirms. If the task ignores checksums (`unverified`), only the size matters.
     pub fn is_damaged(&self) -> bool {
         self.damaged
     }
