@@ -188,7 +188,8 @@ fn put_listed(out: &mut Vec<u8>, rev: &Rev) -> Result<(), AllocError>
     push_short(out, rev)
 }
 
-/// Draws the heading of numbers in a picture: the kind of the numbers (`table`), and the name that the numbers have.
+/// Draws the heading of a line of numbers: the kind of the line (`table`), and then the text `name`, for example the
+/// name of a database.
 pub fn put_heading(
     out: &mut Vec<u8>,
     form: Form,

@@ -1,4 +1,4 @@
--- Defines the beginnings of envelopes that are written before the end of the wrapped document is read.
+-- Defines when the first bytes of an envelope can be written before the end of the wrapped document is read.
 use Rattle.std.specs.Prelude.{◌≡◌, ℕ, ◌<◌, ◌-◌, length, take, drop, List, [], ◌∷◌, ◌++◌, codes, true}
 use Rattle.json.specs.Print.{escape}
 use Rattle.doc_envelope.specs.Members.{Outside, Quoted, first_length, members_in}

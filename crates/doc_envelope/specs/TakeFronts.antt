@@ -1,4 +1,4 @@
--- Defines the beginnings of documents that are written before the end of the document's envelope is read.
+-- Defines when the first bytes of a document can be written before the end of the document's envelope is read.
 use Rattle.std.specs.Prelude.{◌≡◌, ℕ, ◌<◌, length, drop, List, [], ◌∷◌, ◌++◌, codes, false, Some}
 use Rattle.doc_envelope.specs.Members.{Outside, first_length, is_blank, members_in}
 use Rattle.doc_envelope.specs.Envelopes.{string_of}

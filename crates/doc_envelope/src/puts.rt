@@ -13,7 +13,8 @@ use std::alloc::AllocError;
 impl Envelope {
     /// Wraps the beginning of a document. Returns true only if a run (string bytes that are passed on without being
     /// stored) may follow the beginning of the document. If the call returns true, the built text is the beginning of
-    /// the envelope of each document that begins with `beginning`, if all later members of the document are wrapped.
+    /// the envelope of each document that begins with `beginning`. The later members of the document must all be
+    /// members that the envelope stores in its string `whole`.
     pub fn begin_put(&mut self, beginning: &[u8]) -> Result<bool, AllocError>
         ensures { IfOk result (λ ok. ok ≡ true → IsPutStart beginning.now (made_of self.new)) }
     {

@@ -60,7 +60,7 @@ pub(crate) enum Call<'a> {
     Edit(usize, &'a str, &'a str, bool, &'a str),
     /// Read the UUID and the update sequence.
     Numbers(usize),
-    /// Read the life of the database.
+    /// Read the life of the peer's database, a number that rises when the peer is restored.
     Life(usize),
     /// Read the tree of a document.
     Tree(usize, &'a str),

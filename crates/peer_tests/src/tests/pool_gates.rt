@@ -1,4 +1,5 @@
-//! Tests of pool runs in which a gate, which the workers call at each stage of a window, stops or blocks a worker.
+//! Tests of pool runs in which a gate (a function that the workers call at each stage of a window) stops or blocks a
+//! worker.
 use crate::tests::peers::Rep;
 use crate::tests::pool_rows::{CARRIED, DOCUMENTS, OPEN_PEERS};
 use crate::tests::pools::{Bench, Call, How, Rows};

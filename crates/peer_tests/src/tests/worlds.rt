@@ -204,7 +204,7 @@ fn sizes_text(alloc: Global, sizes: (usize, usize, usize, usize, usize)) -> Opti
     format!(in alloc; "{windows} {asked} {parcels} {entries} {logs}").ok()
 }
 
-/// Returns the life of the source's database.
+/// Returns the life of the source's database, a number that rises when the source is restored.
 fn life_text(alloc: Global, world: &World<Rules>) -> Option<String> {
     let life = world.source().db().life();
     format!(in alloc; "{life}").ok()
