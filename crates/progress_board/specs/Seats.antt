@@ -20,7 +20,8 @@ seen_read s = sum s.place.me.0.reads
 abbrev pub seen_settled : BoardSeat → ℕ
 seen_settled s = sum s.place.me.0.settles
 
--- Each counter's lower bound in a seat's view v is at most the bound in the later view w.
+-- A view has the lower bounds of counters that a seat (an access token for a progress board) knows. For each counter,
+-- the lower bound in the view v is at most the lower bound in the view w.
 abbrev pub IsLater : SeatView → SeatView → Type 0
 IsLater v w =
     ((j : ℕ) → slice_index v.reads j ≤ slice_index w.reads j)
@@ -52,8 +53,8 @@ settled_refusal s n =
 abbrev pub are_seats : ℕ → ℕ → Bool
 are_seats workers viewers = nat_le 1 workers && nat_le workers 64 && nat_le 1 viewers && nat_le viewers 64
 
--- The error that a failed creation of a board returns: `Memory` if the numbers of workers and viewers are valid, else
--- `BadSeats`.
+-- The error of a call that fails to create a progress board. The error is `Memory` if the numbers of workers and
+-- viewers are valid, and `BadSeats` if one of these numbers is not valid.
 abbrev pub new_fault : ℕ → ℕ → BoardFault
 new_fault workers viewers = if are_seats workers viewers then faults.Memory else faults.BadSeats
 

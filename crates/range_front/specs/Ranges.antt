@@ -45,7 +45,8 @@ absorbed hi [] = (hi, [])
 absorbed hi (r ∷ rs) = if r.lo == hi then (r.hi, rs) else (hi, r ∷ rs)
 
 -- The ranges of done windows after adding the window (lo, hi] at the range r, which is the first range that ends at or
--- above `lo`. If r ends at `lo` or begins at `hi`, the window extends r. Otherwise the window becomes a range before r.
+-- above `lo`. If r ends at `lo` or begins at `hi`, the window extends r. If r neither ends at `lo` nor begins at `hi`,
+-- the window becomes a new range before the range r.
 abbrev pub put_at : DoneRange → List DoneRange → ℕ → ℕ → List DoneRange
 put_at r rs lo hi =
     if r.hi == lo then record { lo = r.lo; hi = (absorbed hi rs).0 } ∷ (absorbed hi rs).1
