@@ -142,7 +142,8 @@ impl<F: WriteFilter> Peer<F> {
         &self.db
     }
 
-    /// Has no effect at run time, but gives proofs the invariants of the peer and of the peer's database.
+    /// Has no effect at run time. The contract of the call states the invariants of the peer and of the peer's
+    /// database, so that proofs can use these invariants.
     pub fn law(&self)
         ensures peer { Lawful (F.refuses self.now.0) self.now.1 }
         ensures database { LawfulDatabase self.now.1.db }

@@ -20,7 +20,8 @@ pub struct Scope {
 /// The parameters of a new session.
 #[derive(Debug, Drop)]
 pub struct Beginning {
-    /// The replication, the base, the goal and the life of the new session.
+    /// The new session's replication, the life of the source's database, the earlier session that the new session
+    /// continues (base), and the sequence up to which it reads (goal).
     pub scope: Scope,
     /// The source's sequence above which the session reads.
     pub start: u64,
