@@ -29,8 +29,10 @@ pub record IsWorld (refuses : Document → Bool) (w : WorldValue) : Type 0 where
 
 -- ---- tied worlds
 
--- The bag of messages has a window at index `place`. If the window at `place` has the source's current life, this
--- window is consistent with the request `a` in `OwnAsked`, and with the parcel `p` in `OwnParcel`.
+-- The bag of messages has a window at index `place`. `OwnAsked` states that the request `a` is consistent with the
+-- window at `place`, if the window has the current life (a number that each restore raises) of the source's database.
+-- `OwnParcel` states that the parcel `p` is consistent with the window at `place`, if the window has the current life
+-- of the source's database.
 pub record OwnAsked (w : WorldValue) (place : ℕ) (a : AskedValue) : Type 0 where
   pub window : WindowValue
   pub own : slice_get w.bag.windows place ≡ Some window
@@ -66,8 +68,9 @@ pub record HoldNone (source target : PeerValue) (chosen : Choice) : Type 0 where
 
 -- ---- guarantees of tied worlds
 
--- Settling a parcel of the bag never returns `Uncovered` if the session has the parcel's window, and the window has the
--- source's current life.
+-- If the session has the parcel's window, and the window and the source's database have the same life, settling the
+-- parcel never returns `Uncovered`. The window and the source's database have the same life if the database was not
+-- restored after it produced the window, because each restore raises the life.
 abbrev pub NeverUncovered : (Document → Bool) → WorldValue → Type 0
 NeverUncovered refuses w =
     (p : ℕ × ParcelValue) → Among p w.bag.parcels

@@ -6,8 +6,9 @@
 -- peers, and every message that was sent and not lost. A step is one call on a peer, with any message of the bag. A
 -- message stays in the bag when a step uses it, so later steps can use the message in any order. A world has backups of
 -- the source. If a backup is restored, the source's database begins a new life. A crash deletes all messages, but does
--- not change the peers and the backups. A statement that is true after every list of steps is true for every exchange
--- between the two databases, even if other clients write to the databases during the exchange.
+-- not change the peers and the backups. Every exchange of messages between the two databases is a list of steps, even
+-- if other clients write to the databases during the exchange. A statement that is true after every list of steps is
+-- therefore true after every exchange of messages.
 use Rattle.std.specs.Prelude.{◌≡◌, ◌⊎◌, ℕ, ◌==◌, ◌≤◌, List, [], ◌∷◌, ◌++◌, Bool, if◌then◌else◌, Option, Some, None, IfSome, Result, Ok, Err, take, slice_get}
 use Rattle.rev_tree.specs.declared.origin.SessionId.{SessionId}
 use Rattle.doc_json.specs.Document.{Document}
