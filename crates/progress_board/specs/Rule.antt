@@ -1,5 +1,5 @@
--- Defines the rule that the board's counters obey. Defines what a seat (access to the board) knows about the counters
--- after each step, as specified in docs/PROFILE.md, "The progress board".
+-- Defines the rule that the counters of a progress board obey. Defines what a seat (an access token for the board)
+-- knows about the counters after each step, as specified in docs/PROFILE.md, "The progress board".
 use Rattle.std.specs.Prelude.{◌≡◌, ◌+◌, ◌<◌, ◌≤◌, ℕ, Bool, true, false, List, length, max, replicate, slice_index, slice_set}
 use mathlib.Core.Option.{some}
 use lib.ListN.{get_elem?}
@@ -60,7 +60,7 @@ SeesSettled v i n w =
     (slice_set v.settles i n))
     × (slice_index v.settles i ≤ n) × (n ≤ most) × (v.works ≡ true → v.number ≡ i → n ≡ slice_index v.settles i)
 
--- What a seat knows about the board's counters is true.
+-- The facts that a seat (an access token for a progress board) knows about the board's counters are true.
 pub record Fits (k : ℕ) (words : List ℕ) (v : SeatView) : Type 0 where
   pub read_size : length v.reads ≡ k
   pub settle_size : length v.settles ≡ k
@@ -77,8 +77,10 @@ pub record Fits (k : ℕ) (words : List ℕ) (v : SeatView) : Type 0 where
 abbrev pub InOrder : ℕ → List ℕ → Type 0
 InOrder k words = (j : ℕ) → j < k → (slice_index words (k + j) ≤ slice_index words j) × (slice_index words j ≤ most)
 
--- The invariant of a board: no worker's settled counter exceeds the worker's read counter, what each seat knows about
--- the counters is true, and the workers' numbers are distinct.
+-- The invariant of a progress board. No worker's settled counter exceeds the worker's read counter. The facts that each
+-- seat (an access token for the board) knows about the counters are true. The numbers of the workers' seats are
+-- distinct, and are less than the number that the dealer (the creator of the seats) gives next. A board has at most one
+-- dealer.
 pub record Kept (k : ℕ) (words : List ℕ) (views : List SeatView) : Type 0 where
   pub size : length words ≡ k + k
   pub order : InOrder k words

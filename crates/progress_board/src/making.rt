@@ -1,4 +1,4 @@
-//! Creates a board and the seats of its workers and viewers.
+//! Creates a progress board, and the seats (access tokens) of its workers and viewers.
 ghost use Rattle.std.specs.Prelude.{◌≡◌, ◌+◌, ◌<◌, ◌≤◌, true, [], IfOk, IfErr, length, vec_len, vec_capacity};
 ghost use Rattle.progress_board.specs.Rule.{dealer, AllZero};
 ghost use Rattle.progress_board.specs.Seats.{SeatsAre, are_seats, new_fault, AreNew};
@@ -15,7 +15,8 @@ use std::alloc::{AllocError, Global};
 pub const MOST_WORKERS: u64 = 64;
 
 impl Board {
-    /// Creates a board with all counters at 0, and with a seat for each worker and then a seat for each viewer.
+    /// Creates a board with all counters at 0. Also creates a seat (an access token) for each worker, and then a seat
+    /// for each viewer.
     ///
     /// Returns `BadSeats` if the number of workers or the number of viewers is not from 1 to 64.
     pub fn new(
@@ -67,7 +68,7 @@ fn lay_words(
     Table::<(), SeatView, u64, BoardRule, Global>::of_words(alloc, words, &(workers as u64))
 }
 
-/// Appends the seats of the board's workers to a list.
+/// Appends the seats (access tokens) of the board's workers to a list.
 fn add_workers(table: &BoardTable, dealing: &mut Place, workers: usize, seats: &mut Vec<BoardSeat>)
     requires board { (table.now.shared.key ≡ workers) × (table.now.shared.table_id.words ≡ workers + workers) }
     requires desk { (dealing.old.table_id ≡ table.now.shared.table_id) × (dealing.old.me ≡ (dealer workers 0, [])) }
@@ -83,7 +84,7 @@ fn add_workers(table: &BoardTable, dealing: &mut Place, workers: usize, seats: &
     }
 }
 
-/// Appends the seats of the board's viewers to a list.
+/// Appends the seats (access tokens) of the board's viewers to a list.
 fn add_viewers(
     table: &BoardTable,
     dealing: &mut Place,

@@ -1,4 +1,5 @@
-//! The facts that a seat has about the counters, and the rule that the counters satisfy.
+//! The facts that a seat (an access token for a progress board) has about the board's counters, and the rule that the
+//! counters satisfy.
 //!
 //! No value of the types in this file exists at run time. The types of this file represent what proofs know about the
 //! counters of a board.

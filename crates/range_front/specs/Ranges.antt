@@ -1,5 +1,5 @@
--- Defines the stored form of a front: the ends of the windows, the low water, and the ranges of done windows above the
--- low water.
+-- Defines the stored form of a front (a list of adjacent windows): the ends of the windows, the low water, and the
+-- ranges of done windows above the low water.
 use Rattle.std.specs.Prelude.{◌≡◌, ◌⊎◌, ℕ, ◌<◌, Bool, false, ◌&&◌, ◌||◌, ◌==◌, nat_le, if◌then◌else◌, List, [], ◌∷◌, map}
 use Rattle.range_front.specs.declared.ranges.DoneRange.{DoneRange}
 use Rattle.range_front.specs.Front.{FrontWindow, FrontValue, IsFront}

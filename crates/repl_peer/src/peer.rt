@@ -329,8 +329,9 @@ impl<F: WriteFilter> Peer<F> {
         self.append_prepared(id, ReadyWindow::new(window))
     }
 
-    /// Does the same as `append` for a prepared window. A prepared window may already have its form without leaves, in
-    /// which the session stores the window once the window is done.
+    /// Does the same as `append` for a prepared window. A prepared window may already have a copy of the window whose
+    /// rows have no leaves. Once a prepared window is done, the session stores only the copy whose rows have no leaves,
+    /// unless the allocation for this copy fails.
     pub fn append_prepared(&mut self, id: SessionId, ready: ReadyWindow) -> Result<(), TargetFault>
         ensures answer { GivesUnlessMemory result (append_answer self.old.1 id ready) }
         ensures filter { self.new.0 ≡ self.old.0 }

@@ -43,8 +43,8 @@ pub struct Ran<F: WriteFilter> {
     pub outcome: Result<Report, PoolFault>,
 }
 
-/// A board on which a run shows its progress, with a seat for each worker of the plan. A worker updates the board
-/// through its seat.
+/// A progress board on which a run shows its progress, with a seat (an access token for the board) for each worker of
+/// the plan. A worker updates the board through its seat.
 #[derive(Drop)]
 pub struct Progress<'a> {
     /// The board.

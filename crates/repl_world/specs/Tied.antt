@@ -46,11 +46,13 @@ pub record OwnParcel (w : WorldValue) (place : ℕ) (p : ParcelValue) : Type 0 w
 pub record Tied (w : WorldValue) : Type 0 where
   -- The target of the world is consistent with the source and with each backup of the source.
   pub peers : IsTiedWith w.backups w.source w.target w.chosen
-  -- The life (incarnation) of each window or log in the bag is at most the life of the source's database.
+  -- The life (a number that each restore raises) of each window or log in the bag is at most the life of the source's
+  -- database.
   pub window_lives : (x : WindowValue) → Among x w.bag.windows → x.life ≤ w.source.db.life
   pub log_lives : (g : ℕ × List EntryValue) → Among g w.bag.logs → g.0 ≤ w.source.db.life
-  -- A window of the bag that has the source's current life is consistent with the source's database. If the window of a
-  -- request or parcel in the bag has the source's current life, the request or parcel is consistent with the window.
+  -- If a window in the bag has the current life of the source's database, the window is consistent with this database.
+  -- If the window of a request or parcel in the bag has the current life of the source's database, the request or
+  -- parcel is consistent with the window.
   pub windows : (x : WindowValue) → Among x w.bag.windows → x.life ≡ w.source.db.life
       → IsTiedWindow w.source.db w.chosen x
   pub asked : (a : ℕ × AskedValue) → Among a w.bag.asked → OwnAsked w a.0 a.1

@@ -2,7 +2,8 @@
 use repl_log::RepId;
 use rev_tree::SessionId;
 
-/// The replication, the life, the base and the goal of a session, which never change (docs/PROFILE.md, "Sessions of a
+/// The replication, the life of the source's database, the earlier session that the session continues (base), and the
+/// sequence up to which it reads (goal). These parameters of a session never change (docs/PROFILE.md, "Sessions of a
 /// peer").
 #[derive(Debug, Drop)]
 pub struct Scope {
