@@ -15,7 +15,8 @@ pub record IsByte (nesting b : ℕ) : Type 0 where
   pub opens : (b == 123 || b == 91) ≡ false
   pub closes : (b == 125 || b == 93) ≡ false
 
--- In a text that is within n brackets, all strings are closed, and brackets are paired.
+-- A text in which all strings are closed and all brackets are paired. At the start of the text, n brackets are open. If
+-- n is 0, each comma of the text is in a string or in brackets.
 pub data Paired : ℕ → List ℕ → Type 0 where
   nothing : {n : ℕ} → Paired n []
   byte : {n b : ℕ} {t : List ℕ} → IsByte n b → Paired n t → Paired n (b ∷ t)
@@ -37,8 +38,9 @@ pub record HasMembers (x : List ℕ) (ms : List (List ℕ)) : Type 0 where
   pub members : AreMembers ms
   pub text : x ≡ object_of ms
 
--- The envelope's one member `whole` has a JSON string in any spelling as its value. The content of this string is the
--- texts of the wrapped members, with commas between them. If an envelope wraps no members, it has no member `whole`.
+-- If an envelope wraps members, it has exactly one member `whole`, whose value is a JSON string, with or without
+-- escapes. The content of this string is the texts of the wrapped members, with commas between them. If an envelope
+-- wraps no members, it has no member `whole`.
 pub data Carries : List (List ℕ) → List (List ℕ) → Type 0 where
   none : Carries [] []
   whole : {w : List ℕ} (o : List ℕ) (os : List (List ℕ)) → has_name w whole_name ≡ true

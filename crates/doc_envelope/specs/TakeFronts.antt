@@ -18,8 +18,8 @@ pub record AppendsOpen (q made S : List ℕ) : Type 0 where
   pub front : S ≡ added made content
 
 -- A run (bytes in a string that are not stored) may follow the beginning s of an envelope. The text `made` results from
--- the members before the member `whole`, and s ends in the string of the member `whole`. The document of each envelope
--- that begins with s begins with S.
+-- the members before the member `whole`, and s ends in the string of the member `whole`. If an envelope begins with the
+-- text s, the document that is unwrapped from the envelope begins with the text S.
 pub record IsTakeStart (s S : List ℕ) : Type 0 where
   pub may : MayStream s
   pub made : List ℕ

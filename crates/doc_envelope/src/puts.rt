@@ -12,8 +12,9 @@ use std::alloc::AllocError;
 
 impl Envelope {
     /// Wraps the beginning of a document. Returns true only if a run (string bytes that are passed on without being
-    /// stored) may follow the beginning of the document. If the call returns true, the built text is the beginning of
-    /// the envelope of each document that begins with `beginning`, if all later members of the document are wrapped.
+    /// stored) may follow the beginning of the document. Suppose that the call returns true, and that a document begins
+    /// with `beginning` and has no later member that stays outside of the string `whole`. The document's envelope then
+    /// begins with the built text.
     pub fn begin_put(&mut self, beginning: &[u8]) -> Result<bool, AllocError>
         ensures { IfOk result (λ ok. ok ≡ true → IsPutStart beginning.now (made_of self.new)) }
     {

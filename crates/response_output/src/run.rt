@@ -221,8 +221,9 @@ fn feed_part<W: ScriptWrite>(
     }
 }
 
-/// Writes a run of bytes in a string of a long document, which the parser does not store. If the given bytes begin with
-/// no such run, the call lets the parser read some of the given bytes. Returns the number of bytes that were read.
+/// Writes a run of bytes in a string of a long document, which the parser does not store. If the given bytes do not
+/// begin with a run that the parser may skip, the call lets the parser read some of the given bytes. Returns the number
+/// of bytes that were read.
 fn feed_some<W: ScriptWrite>(
     reading: &mut Reading,
     front: &mut Front,
@@ -411,7 +412,7 @@ fn run_chunks<R: ScriptRead, W: ScriptWrite>(
 ///
 /// - `Refused` if the input is not a response. All items before the rejected byte have been written. If the rejected
 ///   byte is in a long document, the beginning of this document may also have been written.
-/// - `LateMember` if a long document ends in which a member `_id`, `_rev`, `_revisions` or `_deleted` follows an
+/// - `LateMember` at the end of a long document that has a member `_id`, `_rev`, `_revisions` or `_deleted` after an
 ///   attachment. All earlier items, and the beginning of the document, have been written.
 /// - `Device` if the reader, the writer or an allocation failed. The fault in `Device` is `Read` if the reader failed
 ///   in this call, or after 4,294,967,295 reads of at most 65,536 bytes. The fault in `Device` is `Write` if the writer

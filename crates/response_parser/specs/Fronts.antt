@@ -48,9 +48,9 @@ pub record HasWritten (s : State) (written : List ℕ) : Type 0 where
   pub is : written ≡ cut.written
 
 -- The parser has just found a document in the state s, and `written` is the output for a long beginning of the
--- document. A member that the document's envelope does not wrap follows the document's long beginning. Therefore the
--- output for the document without its runs does not begin with `cut.front`, the output for the beginning without its
--- runs.
+-- document. A member that the document's envelope does not wrap follows the document's long beginning. The output for
+-- the stored text (the document without its runs) does not begin with `cut.front`, the output for the beginning of this
+-- text.
 pub record IsLate (s : State) (written : List ℕ) : Type 0 where
   pub cut : Cut
   pub rest : List ℕ

@@ -7,8 +7,8 @@ use thiserror::Error;
 pub enum Wanted {
     /// Documents in CouchDB responses. The parser skips objects without a document.
     Documents,
-    /// Documents in CouchDB responses. The parser wraps these documents in envelopes, and skips objects without a
-    /// document.
+    /// Documents in CouchDB responses. The parser wraps each document of a response in an envelope, and skips objects
+    /// without a document.
     Enveloped,
     /// Documents in CouchDB responses. The parser rejects objects without a document.
     Bodies,
