@@ -92,17 +92,18 @@ abbrev pub HasRoom : Option Board → ℕ → Option BoardSeat → Type 0
 HasRoom (Some b) n (Some s) = s.settled + n ≤ s.read
 HasRoom board n seat = Unit {0}
 
--- If there is a board, seat t is seat s after z - a more documents were settled. If there is no board, seat t equals
--- seat s.
+-- If there is a board, seat t is the writer's seat s (the writer's counters on the board) after the count of settled
+-- documents rose from a to z. If there is no board, seat t equals seat s.
 abbrev pub HasSettled : Option Board → ℕ → ℕ → Option BoardSeat → Option BoardSeat → Type 0
 HasSettled None a z s t = t ≡ s
 HasSettled (Some b) a z (Some s) (Some t) =
     WorksAt b t × (t.number ≡ s.number) × (t.read ≡ s.read) × (t.settled + a ≡ s.settled + z)
 HasSettled (Some b) a z s t = ⊥
 
--- If there is a board, seat t is seat s after z - a more documents were settled. The read counter of t is at least the
--- read counter of s. If the writer was not stopped, seat t shows z - a more read documents than seat s. If there is no
--- board, seat t equals seat s.
+-- If there is a board, seat t is the writer's seat s (the writer's counters on the board) after the count of settled
+-- documents rose from a to z. The read counter of t is at least the read counter of s. If the writer was not stopped,
+-- the read counter of t exceeds the read counter of s by the difference between z and a. If there is no board, seat t
+-- equals seat s.
 abbrev pub HasWritten : Option Board → ℕ → ℕ → Option Halt → Option BoardSeat → Option BoardSeat → Type 0
 HasWritten None a z stopped s t = t ≡ s
 HasWritten (Some b) a z stopped (Some s) (Some t) =

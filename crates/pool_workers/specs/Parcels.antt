@@ -10,8 +10,8 @@ use Rattle.pool_workers.specs.declared.parcels.ParcelMessage.TheVariants.{Parcel
 abbrev pub parcel_view : ℕ → List (ℕ × ℕ) → List (ℕ × ℕ) → ParcelView
 parcel_view parts sent got = record { parts = parts; sent = sent; got = got }
 
--- A thread that has no part of the parcel channel's pass has sent and received no parcels. The pass is the ghost right
--- to use the channel.
+-- A thread that has no part of the parcel channel's pass has sent and received no parcels. A channel's pass is the
+-- right to use the channel, and has a meaning only in proofs.
 abbrev pub IdleIsEmpty : List ParcelView → Type 0
 IdleIsEmpty views =
     (port : ℕ) (v : ParcelView) → get_elem? views port ≡ some v → v.parts ≡ 0 → (v.sent ≡ []) × (v.got ≡ [])

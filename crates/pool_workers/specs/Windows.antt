@@ -11,7 +11,7 @@ abbrev pub window_view : ℕ → ℕ → ℕ → List ℕ → WindowView
 window_view parts reads count taken = record { parts = parts; reads = reads; count = count; taken = taken }
 
 -- Only the page reader has sent windows. A thread that has no part of the window channel's pass is not the page reader,
--- and has taken no windows. The pass is the ghost right to use the channel.
+-- and has taken no windows. A channel's pass is the right to use the channel, and has a meaning only in proofs.
 abbrev pub KeepsRole : List WindowView → Type 0
 KeepsRole views =
     (port : ℕ) (v : WindowView) → get_elem? views port ≡ some v

@@ -60,8 +60,9 @@ impl<
     G: Gate + Sync,
     R: Wait + Sync,
 > Context<'e, F, S, T, L, G, R> {
-    /// Starts a pair. The argument `others` is the number of pairs that already run. If a thread cannot be created, the
-    /// call sends an end message to each pair, receives one end message, and returns the seat in the error.
+    /// Starts a pair. The argument `others` is the number of pairs (threads that work as fetcher and writer) that the
+    /// run has already started. If a thread cannot be created, the call sends an end message to each pair, receives one
+    /// end message, and returns the seat in the error.
     fn start_pair<'s, E>(
         &'e self,
         scope: &Scope<'s, E>,
@@ -168,8 +169,8 @@ impl<
     }
 
     /// Starts the pairs. If there is a board, each pair gets a seat, and the first pair gets the last seat. If a thread
-    /// cannot be created or an allocation fails, the call starts fewer pairs than requested. The call then sends end
-    /// messages of the channel of windows to the started pairs.
+    /// cannot be created or an allocation fails, the call starts fewer pairs (threads that work as fetcher and writer)
+    /// than requested. The call then sends end messages of the channel of windows to the started pairs.
     fn start_pairs<'s, E>(
         &'e self,
         scope: &Scope<'s, E>,
@@ -233,8 +234,8 @@ impl<
     G: Gate + Sync,
     R: Threads + Wait + Sync,
 > Context<'e, F, S, T, L, G, R> {
-    /// Joins the pairs' threads and collects their results. The call joins the threads in reverse order, so that the
-    /// seats of the board are returned in order.
+    /// Joins the pairs (threads that work as fetcher and writer) and collects the results of these threads. The call
+    /// joins the threads in reverse order, so that the seats of the board are returned in order.
     fn join_pairs(
         &self,
         handles: Vec<PairHandle<'_, S, L, G>>,
@@ -291,8 +292,10 @@ impl<
         (fetched, written)
     }
 
-    /// Runs the pairs while the caller's thread reads the windows, and returns the seats of the board. Returns `None`,
-    /// and reads no window, if a thread cannot be created or an allocation fails before all pairs are started.
+    /// Runs the pairs (threads that work as fetcher and writer) while the caller's thread reads the windows. Returns
+    /// the results of the run, and the pairs' seats (rows of counters) on the progress board. If a thread cannot be
+    /// created or an allocation fails before all fetchers and writers are started, returns `None` instead of the
+    /// results, and reads no window.
     pub fn pairs_in_scope<'s, E>(
         &'e self,
         scope: &Scope<'s, E>,

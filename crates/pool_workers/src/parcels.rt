@@ -1,4 +1,5 @@
-//! The channel of parcels, with its messages, each thread's facts about the channel, and the rule of the channel.
+//! The channel of parcels: its messages, what proofs know about each thread's use of the channel, and the rule that
+//! sent, received and queued parcels satisfy.
 use crate::brands::SourceBrand;
 use crate::messages::Found;
 use crossbeam_channel::protocol::{Join, Lesson, Outcome, Protocol, Split};
@@ -15,9 +16,10 @@ pub enum ParcelMessage<S: SourceBrand> {
     End,
 }
 
-/// A thread's facts about the channel of parcels. The field `parts` says how many of the 1,024 parts of the channel's
-/// pass the thread has. The fields `sent` and `got` list the parcels that the thread has sent and received, each as a
-/// pair of the parcel's number and its number of documents. No `ParcelView` exists at run time.
+/// A thread's facts about the channel of parcels. The right to use a channel (the channel's pass) has 1,024 parts, and
+/// the field `parts` is the number of parts that the thread has. The fields `sent` and `got` list the parcels that the
+/// thread has sent and received, each as a pair of the parcel's number and its number of documents. No `ParcelView`
+/// exists at run time.
 pub struct ParcelView {
     pub parts: u64,
     pub sent: LinkedList<(u64, u64)>,
@@ -25,7 +27,7 @@ pub struct ParcelView {
 }
 
 /// The rule that the channel of parcels always satisfies. The sent parcels are exactly the received and the queued
-/// parcels. The rule compares parcels by their numbers and by their numbers of documents.
+/// parcels. The rule treats two parcels as equal if they have the same parcel number and the same number of documents.
 pub struct Conserved;
 
 impl<S: SourceBrand> Protocol<ParcelMessage<S>, ParcelView> for Conserved {

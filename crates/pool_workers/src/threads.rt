@@ -37,8 +37,8 @@ pub struct Owned<S: SourceBrand, L: Ledger> {
 }
 
 /// What the caller's thread owns after all workers have ended: the complete passes of both channels, the complete share
-/// of the ledger, and the workers' results. If reading the windows ended early, the caller's thread also owns the
-/// reason.
+/// of the ledger, and the workers' results. If the caller's thread stopped before it had read all windows, the field
+/// `read` has the reason why it stopped.
 #[derive(Drop)]
 pub struct Ended<S: SourceBrand, L: Ledger> {
     pub windows: WindowPass<S>,

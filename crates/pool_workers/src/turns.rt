@@ -1,4 +1,5 @@
-//! Runs a fetcher and a writer alternately on one thread. A single pair runs on the thread that reads the windows.
+//! Runs a fetcher and a writer alternately on one thread. If a run has only one pair (a fetcher and a writer on one
+//! thread), the pair runs on the thread that reads the windows.
 //!
 //! One fetcher and one writer on two threads would still settle one document at a time, and would move data between the
 //! processors' caches. No thread is started for a single pair. The caller's thread takes each window through both

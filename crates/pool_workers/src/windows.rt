@@ -14,10 +14,10 @@ pub enum WindowMessage<S: SourceBrand> {
     End,
 }
 
-/// A thread's facts about the channel of windows. The field `parts` says how many of the 1,024 parts of the channel's
-/// pass the thread has. The field `reads` is 1 for the page reader and 0 for other threads, and `count` is the number
-/// of windows that the page reader has sent. The field `taken` has the numbers of the windows that the thread has
-/// taken. No `WindowView` exists at run time.
+/// What proofs know about a thread's use of the channel of windows. The right to use a channel (the channel's pass) has
+/// 1,024 parts, and the field `parts` is the number of parts that the thread has. The field `reads` is 1 for the page
+/// reader and 0 for other threads, and `count` is the number of windows that the page reader has sent. The field
+/// `taken` has the numbers of the windows that the thread has taken. No `WindowView` exists at run time.
 pub struct WindowView {
     pub parts: u64,
     pub reads: u64,
@@ -38,7 +38,8 @@ impl<S: SourceBrand> Protocol<WindowMessage<S>, WindowView> for InTurn {
     ghost first = { window_view 1024 1 0 [] };
 }
 
-/// The split of a pass into two, one of which is for a fetcher, and the later join of both passes.
+/// The split of a channel's pass (the right to use the channel) into two passes, one of which is for a fetcher, and the
+/// later join of the two passes.
 pub struct WindowCut;
 
 impl Split<WindowView> for WindowCut {
@@ -88,7 +89,8 @@ impl<S: SourceBrand> Lesson<WindowMessage<S>, WindowView> for Takes {
     ghost fact = { λ _ _. Unit {0} };
 }
 
-/// The facts about the channel of windows that follow from the channel's complete pass.
+/// The facts about the channel of windows that are true if one thread has all 1,024 parts of the channel's pass (the
+/// right to use the channel).
 pub struct AllTaken;
 
 impl<S: SourceBrand> Lesson<WindowMessage<S>, WindowView> for AllTaken {

@@ -105,8 +105,8 @@ impl<F: WriteFilter, S: SourceBrand, T: TargetBrand<F>, L: Ledger, G: Gate, R: W
     }
 
     /// Settles a parcel and records the low water at the target. The writer stops if the gate stops the writer or a
-    /// call fails. The call shows the documents as read on the board before it settles the documents. The call shows
-    /// the documents as settled before it calls the gate.
+    /// call fails. Before the call settles the documents, it adds their number to the writer's counter of read
+    /// documents on the progress board. The call shows the documents as settled before it calls the gate.
     fn settle_and_record(
         &self,
         share: &mut Share<L>,

@@ -18,19 +18,21 @@ seat_view deals works number reads settles =
 abbrev pub dealer : ℕ → ℕ → SeatView
 dealer k n = seat_view true false n (replicate k 0) (replicate k 0)
 
--- The knowledge of the dealer (the seat that creates all other seats) after the dealer has created a worker's seat.
+-- What proofs know about the dealer (the seat that creates all other seats) after the dealer has created a worker's
+-- seat.
 abbrev pub dealt : SeatView → SeatView
 dealt v = seat_view v.deals v.works (v.number + 1) v.reads v.settles
 
--- The knowledge of a new worker's seat about the board's counters.
+-- What proofs know about a new worker's seat: the worker's number, and the lower bound 0 for each counter of the board.
 abbrev pub hired : SeatView → SeatView
 hired v = seat_view false true v.number (replicate (length v.reads) 0) (replicate (length v.reads) 0)
 
--- The knowledge of a new viewer's seat about the board's counters.
+-- What proofs know about a new viewer's seat (read-only access to the board): the lower bound 0 for each counter of the
+-- board.
 abbrev pub viewer : SeatView → SeatView
 viewer v = seat_view false false 0 (replicate (length v.reads) 0) (replicate (length v.reads) 0)
 
--- The knowledge of a worker's seat after the worker has added n to its read counter.
+-- What proofs know about a worker's seat after the worker has added n to its read counter.
 abbrev pub added_read : SeatView → ℕ → SeatView
 added_read v n =
     seat_view v.deals v.works v.number (slice_set v.reads v.number (slice_index v.reads v.number + n)) v.settles
@@ -39,17 +41,18 @@ abbrev pub added_settled : SeatView → ℕ → SeatView
 added_settled v n =
     seat_view v.deals v.works v.number v.reads (slice_set v.settles v.number (slice_index v.settles v.number + n))
 
--- A seat with the view v loaded n from worker i's read counter, and then has the view w. The seat's lower bound of
--- worker i's read counter increases to n, or was n already. If the seat is worker i's own seat, the lower bound was n
--- already.
+-- The values v and w are what proofs know about a seat before and after the seat has loaded the value n from worker i's
+-- read counter. The lower bound that the seat knows for worker i's read counter was at most n before the load, and is n
+-- after the load. If the seat is worker i's own seat, the lower bound was n already.
 abbrev pub SeesRead : SeatView → ℕ → ℕ → SeatView → Type 0
 SeesRead v i n w =
     (w ≡ seat_view v.deals v.works v.number (slice_set v.reads i n) v.settles)
     × (slice_index v.reads i ≤ n) × (n ≤ most) × (v.works ≡ true → v.number ≡ i → n ≡ slice_index v.reads i)
 
--- A seat with the view v loaded n from worker i's settled counter, and then has the view w. The seat's lower bound of
--- worker i's settled counter increases to n, or was n already. After the load, the seat's lower bound of worker i's
--- read counter is at least n. If the seat is worker i's own seat, the lower bound of the settled counter was n already.
+-- The values v and w are what proofs know about a seat before and after the seat has loaded the value n from worker i's
+-- settled counter. The seat's lower bound of worker i's settled counter increases to n, or was n already. After the
+-- load, the seat's lower bound of worker i's read counter is at least n. If the seat is worker i's own seat, the lower
+-- bound that it knows for the settled counter was exactly n before the load.
 abbrev pub SeesSettled : SeatView → ℕ → ℕ → SeatView → Type 0
 SeesSettled v i n w =
     (w ≡ seat_view v.deals v.works v.number (slice_set v.reads i (max (slice_index v.reads i) n))

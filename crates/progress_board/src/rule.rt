@@ -1,4 +1,5 @@
-//! The facts that a seat has about the counters, and the rule that the counters satisfy.
+//! Types for proofs about the progress board: what is known about a seat (access to the board), and the rule that the
+//! board's counters satisfy.
 //!
 //! No value of the types in this file exists at run time. The types of this file represent what proofs know about the
 //! counters of a board.
