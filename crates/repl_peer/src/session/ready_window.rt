@@ -7,7 +7,7 @@ use std::alloc::Global;
 use std::marker::Model;
 
 /// A window, optionally with a prebuilt form of the window without leaves. When the window is done, the session keeps
-/// only the form without leaves. The form without leaves is built before the peer is locked.
+/// only the form without leaves. A prebuilt form of a window without leaves is built before the peer is locked.
 pub struct ReadyWindow {
     window: Window,
     done: Option<DoneWindow>,
@@ -57,8 +57,8 @@ impl ReadyWindow {
         &self.window
     }
 
-    /// Takes the form of the window without leaves. The call builds this form first if the form was not prepared.
-    /// Returns `None` if the allocation fails.
+    /// Takes the form of the window without leaves. If the form of the window without leaves was not prepared, the call
+    /// first builds the form. Returns `None` if the allocation fails.
     pub(crate) fn take_done(&mut self, alloc: Global) -> Option<DoneWindow>
         ensures same { self.new ≡ self.old }
         ensures done { IfSome result (λ done. done ≡ self.old) }
