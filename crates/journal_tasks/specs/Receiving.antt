@@ -93,8 +93,8 @@ passed_on only lines = flat_map (passed_line only (requested_in (first_part line
 abbrev pub is_empty : List (List ℕ) → Bool
 is_empty revs = nat_eq (length revs) 0
 
--- The lines that are printed for the leaves in a line of the request. The argument `missing` lists those of these
--- leaves that were not received. The argument `received` lists the received leaves of the line's document.
+-- The lines that are printed for the leaves in a line of the request. The argument `missing` lists the leaves of the
+-- request's line that were not received. The argument `received` lists the received leaves of the line's document.
 abbrev pub told_of : Bool → List (List ℕ) → List (List ℕ) → LeavesView → List ℕ
 told_of true received missing leaves =
     if is_empty missing then [] else leaves_line (codes "state") leaves.0 leaves.1 missing
@@ -186,7 +186,7 @@ is_stored (lacks leaves) docs = false
 is_stored (leaf head) docs = is_some (docs head.0)
 is_stored wrong docs = false
 
--- Whether the list `wanted` says that revision `rev` was received.
+-- Whether the list `wanted` of requested revisions marks revision `rev` as received.
 abbrev pub is_marked : List WantedView → List ℕ → Bool
 is_marked wanted rev = list_any (λ item. item.1 && bytes_eq item.0 rev) wanted
 

@@ -9,9 +9,9 @@ use line_reader::{LineTask, run_task};
 use script_engine::{ScriptFault, ScriptRead, ScriptWrite};
 use std::alloc::{AllocError, Global};
 
-/// Prints the size and the last block of the longest prefix of a journal that the journal's checksums confirm. The task
-/// also prints the confirmed prefix's lacks lines, each of which names a document that still lacks leaves. If the task
-/// is given a sequence, the prefix ends at the last block of this sequence.
+/// Prints the size and the last block of the longest prefix of a journal that the journal's checksums confirm. For each
+/// document that still lacks leaves, the task also prints the document's last `lacks` line in the confirmed prefix. If
+/// the task is given a sequence, the prefix ends at the last block whose end line names this sequence.
 ///
 /// The task holds in memory one block, and the lines that the task prints.
 #[derive(Drop)]
@@ -183,8 +183,8 @@ impl LineTask for Confirm {
 }
 
 /// Reads a journal, finds the part that the journal's checksums confirm, and writes a report about this part. If the
-/// caller gives a sequence, the report ends at the last block of this sequence. If no block has the sequence, there is
-/// no output.
+/// caller gives a sequence, the report ends at the last block whose end line names this sequence. If no block has the
+/// sequence, there is no output.
 ///
 /// # Errors
 ///

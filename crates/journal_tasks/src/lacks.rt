@@ -53,7 +53,8 @@ impl Lacks {
         let _line = self.lines.shift_remove(id);
     }
 
-    /// Removes a document's earlier lacks line, and adds a new lacks line at the end of the table.
+    /// Adds a document's new `lacks` line (a line that says that leaves are missing) at the end of the table, and
+    /// removes the document's earlier `lacks` line.
     fn put(&mut self, id: &str, line: &[u8]) -> Result<(), AllocError> {
         self.remove(id);
         let line = Vec::from_slice(self.alloc, line)?;

@@ -83,7 +83,8 @@ impl Select {
         self.blocks.lines()
     }
 
-    /// Whether the checksums do not confirm the complete first copy.
+    /// Whether the first copy of the journal does not have the expected size, or has a part that the journal's
+    /// checksums do not confirm.
     pub fn is_damaged(&self) -> bool {
         self.damaged
     }

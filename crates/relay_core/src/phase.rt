@@ -80,7 +80,7 @@ pub struct Transfer {
     /// The error rows of the transfer so far that refuse a leaf. They are rows of `_bulk_docs` responses, or rows that
     /// the relay creates for documents that are too large for the target.
     pub refused: Vec<RowError>,
-    /// The other error rows of the `_bulk_docs` responses in the transfer so far, which refuse no leaf.
+    /// The error rows that refuse no leaf, from the `_bulk_docs` responses in the transfer so far.
     pub others: Vec<RowError>,
 }
 
@@ -161,8 +161,8 @@ impl Phase {
         ))
     }
 
-    /// Returns the next request of the run. As long as the caller has not printed all notices, the request is to print
-    /// the next notice.
+    /// Returns the next request of the run. As long as the caller has not printed all notices (messages for the user),
+    /// the returned request asks the caller to print the next notice.
     pub fn request(&self) -> Request<'_>
         ensures { request_view result ≡ asked_of self.now }
     {
