@@ -229,8 +229,8 @@ struct Counts {
     arrived: u64,
 }
 
-/// Requests the leaves of a window that an empty database lacks. Fetches the requested leaves from the database `db`
-/// and from the empty database, and puts the documents that `db` returned into a new database.
+/// Requests all leaves of a window, because the database `empty` has none of them. Fetches the requested leaves from
+/// the databases `db` and `empty`, and puts the documents that `db` returned into a new database.
 fn counted(alloc: Global, db: &Database, empty: &Database, window: &Window) -> Result<Counts> {
     let asked = asked(alloc, empty, window)?;
     let (count, _) = fetched(alloc, db, &asked)?;

@@ -71,7 +71,8 @@ fn edit(alloc: Global, net: &mut Net<Rules>, place: usize, id: &str) -> Option<(
     Some(())
 }
 
-/// Audits two peers, and retries if an allocation fails. Returns whether the audit finds no uncovered leaf.
+/// Audits two peers, and retries if an allocation fails. Returns whether the target covers each leaf that the audit
+/// reads.
 fn is_clean(alloc: Global, net: &Net<Rules>, source: usize, target: usize) -> bool {
     let found = match net.audit(alloc, source, target, None) {
         Ok(found) => Some(found),
@@ -83,7 +84,8 @@ fn is_clean(alloc: Global, net: &Net<Rules>, source: usize, target: usize) -> bo
     }
 }
 
-/// Whether no audit between two peers finds an uncovered leaf.
+/// Whether each audit between two peers finds that the target covers (has in a tree or in a session's ledger) each leaf
+/// that the audit reads.
 fn are_clean(alloc: Global, net: &Net<Rules>) -> bool {
     let mut clean = true;
     for source in 0..PEERS {

@@ -97,7 +97,8 @@ fn of_document(
     ))
 }
 
-/// Returns the number of leaves in conflict, and the number of documents that were read for all leaves.
+/// Reads a document for each leaf of the document `id`. Returns the number of leaves in conflict, and the number of
+/// documents that were read.
 fn of_leaves(alloc: Global, database: &Database, id: &DocId) -> Option<(usize, usize)> {
     let Some(tree) = database.tree(id) else {
         return None;

@@ -24,8 +24,8 @@ IsFlag text flag =
     ((text ≡ None) → flag ≡ false) × ((text ≡ Some (codes "true")) → flag ≡ true)
     × ((text ≡ Some (codes "false")) → flag ≡ false)
 
--- For each argument id, the result m of `clap` has two values from the command line `words`. One is the first value as
--- given. The other is the value that `get_one` and `get_flag` read.
+-- The result m of `clap` has the values of the command line `words`. For each argument id, m has the first value that
+-- the command line gives, and the value that `get_one` and `get_flag` read.
 abbrev pub IsFound : App → List (List ℕ) → ArgMatches → Type 0
 IsFound line words m =
     (first_value (found_of m) ≡ λ id. first_of id (matches_of line words))

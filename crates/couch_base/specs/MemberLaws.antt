@@ -18,7 +18,7 @@ pub Among-last : {X : Type 0} (x : X) (xs : List X) → Among x (xs ++ x ∷ [])
 Among-last x [] = inl refl
 Among-last x (y ∷ xs) = inr (Among-last x xs)
 
--- An element of a list with y appended is an element of the list, or y.
+-- If x is an element of the list `xs ++ y ∷ []`, then x is an element of the list xs, or x is y.
 pub Among-push : {X : Type 0} (x : X) (xs : List X) (y : X) → Among x (xs ++ y ∷ []) → Among x xs ⊎ (x ≡ y)
 Among-push x [] y (inl e) = inr e
 Among-push x [] y (inr m) = absurd m

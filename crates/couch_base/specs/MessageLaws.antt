@@ -146,7 +146,7 @@ each_opened : (id : Id) (t : TreeValue) (xs : List RevId) → EachOnce (eq_by_cm
 each_opened id t [] h = tt
 each_opened id t (x ∷ xs) h = (apart_in id t x xs h.0, each_opened id t xs h.1)
 
--- No leaf of document `id` has the id and the newest revision of a document d with another id.
+-- If document d does not have the id `id`, `same_revision d` is false for each leaf of document `id`.
 apart_from : (d : Document) (id : Id) (t : TreeValue) (ys : List RevId) → bytes_eq d.id id ≡ false → list_any (same_revision d) (map (leaf_document id t) ys) ≡ false
 apart_from d id t [] h = refl
 apart_from d id t (y ∷ ys) h = ap (λ b. b || list_any (same_revision d) (map (leaf_document id t) ys)) (and_left _ (same_head d.ancestry (ancestors t y)) h) ∙ apart_from d id t ys h

@@ -38,7 +38,8 @@ is_changed (Ok (answers.Changed seq)) = true
 is_changed (Ok answers.Same) = false
 is_changed (Err fault) = false
 
--- The result of `put` is the expected result, or is `Memory` if a put with the expected result takes a sequence.
+-- The result of `put` is the result `expected`, or is the error `Memory`. The error `Memory` is possible only if
+-- `expected` says that the put changes the database.
 abbrev pub PutGives : Result Put BaseFault → Result Put BaseFault → Type 0
 PutGives (Err faults.Memory) expected = IsTrue (is_changed expected)
 PutGives result expected = result ≡ expected

@@ -26,8 +26,8 @@ pub enum Put {
 /// Why a call failed.
 #[derive(Clone, Copy, Debug, Error)]
 pub enum BaseFault {
-    /// A child in the given ancestry has another parent in the document's tree. The variant names the newest child that
-    /// has another parent in the tree.
+    /// A revision has one parent in the given ancestry and a different parent in the document's tree. The variant names
+    /// the newest such revision (`child`), its parent in the tree (`known`), and its parent in the ancestry (`given`).
     #[error("a revision has another parent in the document's tree")]
     Contradiction { child: Rev, known: Rev, given: Rev },
     /// The update sequence has reached the maximum, 9,007,199,254,740,991.

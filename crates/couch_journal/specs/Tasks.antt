@@ -89,7 +89,7 @@ IsNumber (Some text) n =
     IsNumeral 10 (without_leading_plus text.now) × (digits_value 10 (without_leading_plus text.now) < 2 ^ 64)
     × (n ≡ digits_value 10 (without_leading_plus text.now))
 
--- The task `task` has the given name, and its values come from the arguments and options o.
+-- The task `task` has the given name, and its values come from the arguments and options in o.
 abbrev pub Fits : Named → Options → Task → Type 0
 Fits named.Page o task = task ≡ tasks.Page o.several
 Fits named.Ask o task = task ≡ tasks.Ask
@@ -109,8 +109,8 @@ Fits named.Name o task = (word : Bor (List ℕ)) × (o.first ≡ Some word) × (
 Fits named.Compare o task = task ≡ tasks.Compare o.documents
 Fits named.Info o task = task ≡ tasks.Info
 
--- The task named n takes the arguments and options o, and `task` is the task with this name and the values in o
--- (`Fits`).
+-- The task with the name n takes the arguments and options in o. The value `task` is the task with the name n and with
+-- the values in o (`Fits`).
 abbrev pub Takes : Named → Options → Task → Type 0
 Takes n o task = (has_other_option n o ≡ false) × (arguments_given o ≡ arguments_of n) × Fits n o task
 
@@ -118,7 +118,7 @@ Takes n o task = (has_other_option n o ≡ false) × (arguments_given o ≡ argu
 abbrev pub IsTaskOf : Options → Task → Type 0
 IsTaskOf o task = (n : Named) × (o.task.now ≡ word_of n) × Takes n o task
 
--- The command line with the options o names no task, or names a task that does not take the arguments and options o.
+-- The command line with the options o names no task, or names a task that does not take the arguments and options in o.
 abbrev pub IsTaskless : Options → Type 0
 IsTaskless o =
     ((n : Named) → o.task.now ≡ word_of n → ⊥)

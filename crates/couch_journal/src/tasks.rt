@@ -33,8 +33,8 @@ pub(crate) enum Task<'a> {
     /// Prints the last state of each document of a journal, without verifying the journal's checksums if the Boolean is
     /// true.
     States(bool),
-    /// Prints the documents in the last states of a journal. The number in `Select` is the size of the journal in
-    /// bytes.
+    /// For each leaf in the last state of a document, prints the journal's last line that has this leaf. The number in
+    /// `Select` is the size of the journal in bytes.
     Select(u64),
     /// Prints the documents that have two or more live leaves.
     Conflicts,

@@ -18,8 +18,9 @@ use std::io::{Eprint, Input, Print, Printer, Write};
 use std::{io, str};
 
 /// Runs the program, and returns its exit status. The status is 0 on success, and 2 for a usage error. The status is 1
-/// if the program skipped an object without a document, or if `trees` lacked memory for a line. The status is 3 if the
-/// program rejects the input, or if reading, writing or another allocation failed.
+/// if the program skipped an object without a document, or if an allocation for a line of `trees` failed. The status is
+/// 3 if the program rejects the input, if reading or writing failed, or if an allocation failed that is not for a line
+/// of `trees`.
 pub fn run_program<H: AllocGlobal + Env + Input + Print + Eprint>(rt: &H) -> u8
     ensures { result ≤ 3 }
 {

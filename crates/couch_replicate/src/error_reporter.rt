@@ -101,8 +101,9 @@ impl<'a, H: Eprint + Clock> ErrorReporter<'a, H> {
         }
     }
 
-    /// If errors are explained, warns about options with invalid values (docs/PROFILE.md, "Limits"). If an option has
-    /// an invalid value, each `replicate` or `sync` line that does not override the value fails.
+    /// If the reporter explains errors (`explains`), warns about options with invalid values (docs/PROFILE.md,
+    /// "Limits"). If an option has an invalid value, each `replicate` or `sync` line that does not override the value
+    /// fails.
     pub(crate) fn warn(&self, settings: &Settings) {
         if !self.explains {
             return;

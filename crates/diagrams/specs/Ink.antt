@@ -230,8 +230,8 @@ pub record Draws (old new : List ℕ) (signs : List Sign) : Type 0 where
 abbrev pub leaf_sign : Form → Leaf → Sign
 leaf_sign form l = leaf form l.rev l.wins l.live
 
--- The command that resolves the conflict of a leaf in database `db`. There is a command only for a leaf that is live
--- and not the winner.
+-- The command that resolves the conflict of the leaf l in database `db`. A picture prints this command only if l is
+-- live and is not the document's winner.
 abbrev pub edit_of : List ℕ → List ℕ → Leaf → List Sign
 edit_of db id l = if not l.wins && l.live then edit db id l.rev ∷ [] else []
 

@@ -51,7 +51,7 @@ struct Climb {
 }
 
 impl Climb {
-    /// One more than the index of the reached revision's branch, or 0 at the path's end.
+    /// One more than the index of the branch of the revision `at`, or 0 if `at` is `None`.
     fn height(&self) -> usize {
         match self.at {
             Some(point) => point.branch.saturating_add(1),
@@ -59,7 +59,7 @@ impl Climb {
         }
     }
 
-    /// The index of the reached revision's branch, or 0 at the path's end.
+    /// The index of the branch of the revision `at`, or 0 if `at` is `None`.
     fn branch(&self) -> usize {
         match self.at {
             Some(point) => point.branch,
@@ -67,7 +67,7 @@ impl Climb {
         }
     }
 
-    /// The position of the reached revision in its branch, counted from 1, or 0 at the path's end.
+    /// The position of the revision `at` in its branch, counted from 1, or 0 if `at` is `None`.
     fn count(&self) -> usize {
         match self.at {
             Some(point) => point.count,
@@ -116,8 +116,8 @@ impl Ancestries {
         self.start_at(at, rev)
     }
 
-    /// Returns the first revision of the branch with the given parent and first revision, if `starts` has such a
-    /// branch.
+    /// Finds in `starts` the branch whose parent is `from` and whose first revision is `rev`. Returns the position of
+    /// `rev` in this branch, or `None` if `starts` has no such branch.
     fn start_at(&self, from: Option<Point>, rev: &Rev) -> Option<Point> {
         let starts = self.starts.as_ref()?;
         let branch = starts.get(&Start { from, rev: *rev })?;
@@ -254,8 +254,8 @@ impl Ancestries {
         }
     }
 
-    /// Returns the revision after the first `count` revisions of the reached branch, in the ancestry that the path
-    /// follows.
+    /// Returns the revision with which the ancestry of the path `climb` continues after the first `count` revisions of
+    /// the branch that the path has reached.
     fn next(&self, climb: Climb, count: usize) -> Option<&Rev> {
         if climb.count() > count {
             return self.rev_at(climb.branch(), count);

@@ -98,7 +98,7 @@ pub fn folded(low: u32, high: u32) -> u64 {
     u64::from(high).saturating_sub(u64::from(low)) + 1
 }
 
-/// Returns the number of characters of the text in a column that `count` generations share.
+/// Returns the number of characters of a column's text, if the column represents `count` generations.
 pub fn folded_len(count: u64) -> usize {
     digits(count) + 5
 }

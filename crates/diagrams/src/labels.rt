@@ -14,8 +14,8 @@ pub fn label_text(wins: bool, live: bool) -> &'static str
     }
 }
 
-/// Returns the SVG markup of a leaf's shape. In the picture, this markup is between the leaf's full id and the leaf's
-/// short id.
+/// Returns the SVG markup of a leaf's shape. In an SVG picture, the markup of a leaf's shape is between the leaf's full
+/// revision id and the leaf's short revision id.
 pub fn shape_text(wins: bool, live: bool) -> &'static str
     ensures { result.now ≡ shape_text wins live }
 {

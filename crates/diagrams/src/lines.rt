@@ -66,7 +66,8 @@ fn draw_counts(out: &mut Vec<u8>, columns: &[Column], numbers: &[u64]) -> Result
     Ok(())
 }
 
-/// Draws the progress bar of a line of `compare` or of a session. A line of `info` has no bar.
+/// Draws the progress bar of a picture's line that shows the totals of `compare` or the numbers of a session. A line
+/// that shows the numbers of `info` has no bar.
 fn draw_bar(out: &mut Vec<u8>, form: Form, table: Table, numbers: &[u64]) -> Result<(), AllocError>
     ensures { OnOk result (Draws out.old.items out.new.items (bars_of form table numbers.now)) }
 {
@@ -148,7 +149,7 @@ fn behind_numbers(out: &mut Vec<u8>, form: Form) -> Result<(), AllocError>
     }
 }
 
-/// Draws the end of a line of numbers.
+/// Draws the end of a line of numbers (a picture's line with the numbers of `compare`, `info` or a session).
 fn end(out: &mut Vec<u8>, form: Form) -> Result<(), AllocError>
     ensures { OnOk result (Draws out.old.items out.new.items []) }
 {
@@ -158,7 +159,7 @@ fn end(out: &mut Vec<u8>, form: Form) -> Result<(), AllocError>
     }
 }
 
-/// Draws the end of a line of text.
+/// Draws the end of a picture's line about a finding of `compare`, a log, or a session of a log.
 pub fn end_line(out: &mut Vec<u8>, form: Form) -> Result<(), AllocError>
     ensures { OnOk result (Draws out.old.items out.new.items []) }
 {
@@ -187,7 +188,8 @@ fn put_listed(out: &mut Vec<u8>, rev: &Rev) -> Result<(), AllocError>
     push_short(out, rev)
 }
 
-/// Draws the kind and the name at the start of a line of numbers.
+/// Draws the heading of a line of numbers: the kind of the line (`table`), and then the text `name`, for example the
+/// name of a database.
 pub fn put_heading(
     out: &mut Vec<u8>,
     form: Form,

@@ -13,15 +13,15 @@ pub enum Markup {
     Indent,
     /// The blank space of a text picture at a position without an edge.
     Blank,
-    /// A vertical edge in a text picture that passes a row.
+    /// In a text picture, a vertical edge that leads from the row above to the row below without a branch.
     Bar,
-    /// An edge in a text picture to the next revision.
+    /// In a text picture, a horizontal edge to the next revision.
     Step,
-    /// An edge in a text picture to the next revision, with a branch below it.
+    /// In a text picture, a horizontal edge to the next revision, from which a vertical edge leads to the row below.
     Fork,
-    /// An edge in a text picture that comes from above and continues below the row.
+    /// In a text picture, an edge that leads from the row above to a revision in this row, and also to the row below.
     Branch,
-    /// An edge in a text picture that comes from above and does not continue below the row.
+    /// In a text picture, an edge that leads from the row above to a revision in this row, and not to the row below.
     Corner,
     /// The text that follows the number of hidden revisions in a shared column.
     More,

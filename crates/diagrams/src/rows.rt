@@ -88,9 +88,10 @@ fn open_below(alloc: Global, rows: &mut [Row]) -> Result<(), AllocError> {
     Ok(())
 }
 
-/// Replaces the generations in `open`, at which vertical edges continue below a row, by the generations at which
-/// vertical edges continue below the previous row. The row branches off at the generation `hang`, or does not branch
-/// off if `hang` is 0.
+/// Changes the list `open` from the generations of a row to the generations of the previous row. Before the call,
+/// `open` has the generations at which vertical edges continue below the row. After the call, `open` has the
+/// generations at which vertical edges continue below the previous row. The row branches off at the generation `hang`,
+/// or does not branch off if `hang` is 0.
 fn close(open: &mut Vec<u32>, hang: u32) -> Result<(), AllocError> {
     open.retain(|generation| *generation < hang);
     if hang > 0 {

@@ -38,9 +38,10 @@ pub record HasMembers (x : List ℕ) (ms : List (List ℕ)) : Type 0 where
   pub members : AreMembers ms
   pub text : x ≡ object_of ms
 
--- If an envelope wraps members, it has exactly one member `whole`, whose value is a JSON string, with or without
--- escapes. The content of this string is the texts of the wrapped members, with commas between them. If an envelope
--- wraps no members, it has no member `whole`.
+-- An envelope wraps members of a document: it stores the members in one string, the value of its member `whole`. The
+-- JSON string `whole` may be spelled in any way that JSON allows. The content of the string `whole` consists of the
+-- texts of the wrapped members, with commas between these texts. If an envelope wraps no members, it has no member
+-- `whole`.
 pub data Carries : List (List ℕ) → List (List ℕ) → Type 0 where
   none : Carries [] []
   whole : {w : List ℕ} (o : List ℕ) (os : List (List ℕ)) → has_name w whole_name ≡ true

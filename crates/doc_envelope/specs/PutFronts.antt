@@ -1,4 +1,4 @@
--- Defines the beginnings of envelopes that are written before the end of the wrapped document is read.
+-- Defines when the first bytes of an envelope can be written before the end of the wrapped document is read.
 use Rattle.std.specs.Prelude.{◌≡◌, ℕ, ◌<◌, ◌-◌, length, take, drop, List, [], ◌∷◌, ◌++◌, codes, true}
 use Rattle.json.specs.Print.{escape}
 use Rattle.doc_envelope.specs.Members.{Outside, Quoted, first_length, members_in}
@@ -26,8 +26,8 @@ pub record InAttachments (s : List ℕ) : Type 0 where
   pub named : has_name member (codes "\"_attachments\"") ≡ true
 
 -- A run of string bytes (`IsRun`) may follow the beginning s of a document. The text S is the beginning of an envelope,
--- and has a complete member. If all later members are wrapped, the envelope of each document that begins with s begins
--- with S.
+-- and has a complete member. If a document begins with s, and its envelope stores each later member of the document in
+-- the string `whole`, then the envelope begins with S.
 pub record IsPutStart (s S : List ℕ) : Type 0 where
   pub may : MayStream s
   pub inside : InAttachments s

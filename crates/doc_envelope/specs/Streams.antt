@@ -1,5 +1,5 @@
--- Defines the beginnings of documents for which output is written before the document's end is read. A run (consecutive
--- bytes in a string) is written at once, and is not stored.
+-- Defines when output for the first bytes of a document can be written before the rest of the document is read. A run
+-- (consecutive bytes in a string) is written at once, and is not stored.
 use Rattle.std.specs.Prelude.{◌≡◌, ℕ, ◌≤◌, ◌-◌, ◌&&◌, ◌==◌, nat_le, nat_lt, length, drop, List, [], ◌∷◌, ◌++◌, Bool, true, not}
 use Rattle.std.specs.List.{list_all}
 use Rattle.doc_envelope.specs.Members.{Mode, Outside, Quoted, first_length, mode_behind}
@@ -8,11 +8,12 @@ use Rattle.doc_envelope.specs.Members.{Mode, Outside, Quoted, first_length, mode
 abbrev pub is_streamable : ℕ → Bool
 is_streamable b = nat_le 32 b && nat_lt b 127 && not (b == 34) && not (b == 92)
 
--- The text r consists of streamable bytes.
+-- Each byte of the text r is printable ASCII, and not a quotation mark or a backslash.
 abbrev pub IsRun : List ℕ → Type 0
 IsRun r = list_all is_streamable r ≡ true
 
--- The mode of the byte that follows a text, if the first byte of the text has the mode m.
+-- The mode at the end of a text, if m is the mode at the start of the text. A mode says whether a position is outside a
+-- string, inside a string, or after a backslash in a string.
 unfoldable pub mode_after : Mode → List ℕ → Mode
 mode_after m [] = m
 mode_after m (b ∷ t) = mode_after (mode_behind m b) t

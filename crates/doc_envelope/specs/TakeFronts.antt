@@ -1,4 +1,4 @@
--- Defines the beginnings of documents that are written before the end of the document's envelope is read.
+-- Defines when the first bytes of a document can be written before the end of the document's envelope is read.
 use Rattle.std.specs.Prelude.{◌≡◌, ℕ, ◌<◌, length, drop, List, [], ◌∷◌, ◌++◌, codes, false, Some}
 use Rattle.doc_envelope.specs.Members.{Outside, first_length, is_blank, members_in}
 use Rattle.doc_envelope.specs.Envelopes.{string_of}
@@ -17,9 +17,9 @@ pub record AppendsOpen (q made S : List ℕ) : Type 0 where
   pub filled : is_blank content ≡ false
   pub front : S ≡ added made content
 
--- A run (bytes in a string that are not stored) may follow the beginning s of an envelope. The text `made` results from
--- the members before the member `whole`, and s ends in the string of the member `whole`. If an envelope begins with the
--- text s, the document that is unwrapped from the envelope begins with the text S.
+-- A run (bytes in a string that are not stored) may follow the beginning s of an envelope. The text s ends inside the
+-- string that is the value of the envelope's member `whole`. The text `made` is the part of the document that results
+-- from the envelope's members before `whole`. The document of each envelope that begins with s begins with S.
 pub record IsTakeStart (s S : List ℕ) : Type 0 where
   pub may : MayStream s
   pub made : List ℕ

@@ -193,8 +193,8 @@ impl Envelope {
         self.hold(member)
     }
 
-    /// Appends a member to the envelope. The call sets `printed` to false unless the member is known to have the text
-    /// that the kit's JSON library prints.
+    /// Appends a member to the envelope. After the call, `printed` is true only if `printed` was true before, and the
+    /// member has the text that the kit's JSON library prints for this member.
     fn put_front(&mut self, member: &[u8]) -> Result<(), AllocError>
         ensures made { OnOk result (made_of self.new ≡ added (made_of self.old) member.now) }
         ensures held { held_of self.new ≡ held_of self.old }
@@ -242,8 +242,9 @@ impl Envelope {
         quote(self.alloc, self.held.as_slice(), &mut self.text)
     }
 
-    /// Appends the member `whole` to the envelope without its closing quotation mark, if there are wrapped members.
-    /// Returns `false` if the wrapped members are not UTF-8.
+    /// If members are wrapped, appends the member `whole` to the envelope, without the quotation mark that closes the
+    /// string of `whole`. If no members are wrapped, removes the last byte of the built text. Returns `false` if the
+    /// wrapped members are not UTF-8.
     pub(crate) fn begin_held(&mut self) -> Result<bool, AllocError>
         ensures is { IfOk result (λ ok. ok ≡ is_utf8 (held_of self.old)) }
         ensures made { IfOk result (λ ok. ok ≡ true
@@ -325,7 +326,8 @@ fn is_blank(text: &[u8]) -> bool
     text.iter().all(|b| *b == b' ')
 }
 
-/// Whether an envelope stores a member outside of its string.
+/// Whether an envelope stores a member of the document as its own member, instead of in the string of its member
+/// `whole`.
 fn stays(member: &[u8]) -> bool
     ensures { result ≡ stays member.now }
 {

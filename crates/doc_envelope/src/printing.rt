@@ -6,15 +6,16 @@ ghost use Rattle.doc_envelope.specs.Printed.{IsPrintedMember, IsPrintedValue, Is
 use json::is_number;
 use json_values::plain_end;
 
-/// Returns true only if `printed` is true for the earlier members, and the given member may be in an envelope and has
-/// the text that the kit's JSON library prints.
+/// Returns true only if two conditions hold. The argument `printed` is true, and the text of the member is what the
+/// kit's JSON library prints for a member that an envelope may have.
 pub(crate) fn still_printed(printed: bool, member: &[u8]) -> bool
     ensures { result ≡ true → (printed ≡ true) × IsPrintedMember member.now }
 {
     printed && is_printed_member(member)
 }
 
-/// Returns true only if a member may be in an envelope and has the text that the kit's JSON library prints.
+/// Returns true only if the text of the member is what the kit's JSON library prints for a member that an envelope may
+/// have.
 #[inline(always)]
 pub(crate) fn is_printed_member(member: &[u8]) -> bool
     ensures { result ≡ true → IsPrintedMember member.now }

@@ -12,9 +12,9 @@ use std::alloc::AllocError;
 
 impl Envelope {
     /// Wraps the beginning of a document. Returns true only if a run (string bytes that are passed on without being
-    /// stored) may follow the beginning of the document. Suppose that the call returns true, and that a document begins
-    /// with `beginning` and has no later member that stays outside of the string `whole`. The document's envelope then
-    /// begins with the built text.
+    /// stored) may follow the beginning of the document. If the call returns true, the built text is the beginning of
+    /// the envelope of each document that begins with `beginning`. The later members of the document must all be
+    /// members that the envelope stores in its string `whole`.
     pub fn begin_put(&mut self, beginning: &[u8]) -> Result<bool, AllocError>
         ensures { IfOk result (λ ok. ok ≡ true → IsPutStart beginning.now (made_of self.new)) }
     {
@@ -40,8 +40,8 @@ fn in_attachments(beginning: &[u8]) -> bool
     }
 }
 
-/// Returns the incomplete last member of the beginning of a document. Returns `None` if the last member is complete, or
-/// if the member `_revisions` does not precede the last member.
+/// Returns the last member in `beginning`, the first bytes of a document, if this member is incomplete. Returns `None`
+/// if the last member is complete, or if the member `_revisions` does not precede the last member.
 fn open_member(beginning: &[u8]) -> Option<&[u8]>
     ensures { IfSome result (λ member. Opens (drop 1 beginning.now) member.now) }
 {

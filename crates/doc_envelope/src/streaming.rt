@@ -15,7 +15,7 @@ pub(crate) fn may_stream(text: &[u8]) -> bool
     text.len() >= 16 && is_run(&text[text.len() - 8..]) && ends_quoted(text)
 }
 
-/// Whether a text consists of streamable bytes.
+/// Whether each byte of a text is printable ASCII, and not a quotation mark or a backslash.
 fn is_run(text: &[u8]) -> bool
     ensures { result ≡ list_all is_streamable text.now }
 {
@@ -30,7 +30,7 @@ fn is_streamable(byte: u8) -> bool
     byte >= 32 && byte < 127 && byte != b'"' && byte != b'\\'
 }
 
-/// Returns true only if a text ends in a string.
+/// Returns true only if a text ends inside a JSON string, before the quotation mark that closes the string.
 fn ends_quoted(text: &[u8]) -> bool
     ensures { result ≡ true → mode_after Outside text.now ≡ Quoted }
 {

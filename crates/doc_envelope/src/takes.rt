@@ -51,8 +51,9 @@ impl Envelope {
         Ok(Some(rest))
     }
 
-    /// Appends the wrapped members in `string`, the beginning of a JSON string's content. Returns `false` if `string`
-    /// with a closing quotation mark is not a JSON string, or if this JSON string has only white space.
+    /// Appends to the built text the content of `string`, the first bytes of the JSON string in which the envelope
+    /// stores members. Returns `false` if `string` with a closing quotation mark is not a JSON string, or if this JSON
+    /// string has only white space.
     fn take_open(&mut self, string: &[u8]) -> Result<bool, AllocError>
         ensures { IfOk result (λ ok. ok ≡ true
             → AppendsOpen string.now (made_of self.old) (made_of self.new)) }

@@ -20,9 +20,9 @@ use std::alloc::{AllocError, Global};
 /// that is up to 15 bytes smaller would take the same amount of memory from the allocator.
 const SHORT: usize = 136;
 
-/// Serializes the object of the members without a leading `_`. The buffer of the result has fewer than 32 unused bytes.
-/// If the serialized text is short and the allocation for a smaller buffer succeeds, the buffer has fewer than 16
-/// unused bytes.
+/// Serializes the object that has those of the given members whose names do not begin with `_`. The buffer of the
+/// result has fewer than 32 unused bytes. If the serialized text is short and the allocation for a smaller buffer
+/// succeeds, the buffer has fewer than 16 unused bytes.
 pub(crate) fn plain_text<'v, V: JsonValue<'v>>(
     alloc: Global,
     members: &'v V::Object,
@@ -65,8 +65,8 @@ fn trimmed(text: Vec<u8>) -> Vec<u8>
     text
 }
 
-/// Copies a short text to a buffer of the text's length, if this buffer takes less memory from the allocator and the
-/// allocation succeeds.
+/// Copies a text of at most `SHORT` bytes to a buffer of the text's length, if the given buffer has at least 16 unused
+/// bytes and the allocation succeeds. In all other cases, the call returns the given buffer.
 fn fitted(alloc: Global, text: Vec<u8>) -> Vec<u8>
     ensures { result.items ≡ text.items }
 {
@@ -80,7 +80,7 @@ fn fitted(alloc: Global, text: Vec<u8>) -> Vec<u8>
     }
 }
 
-/// Serializes the object that consists of the members without a leading `_`.
+/// Serializes the object that has those of the given members whose names do not begin with `_`.
 fn push_plain<'v, V: JsonValue<'v>>(
     members: &'v V::Object,
     plain: PlainTexts,

@@ -15,8 +15,9 @@ use std::alloc::AllocError;
 /// A JSON value from which a document is read. The value is a `serde_json` value or a value inside a line.
 ///
 /// Contract clauses describe a JSON value by its data (`seen`). The ghost value `in_order` says whether the members of
-/// an object are in the byte order of the members' names. Some types guarantee the order of members. For other types
-/// the caller must guarantee the order.
+/// an object are in the byte order of the members' names. Some types of JSON values guarantee that members are in this
+/// byte order. For a type of JSON value that does not guarantee the byte order of members, the caller must guarantee
+/// it.
 pub(crate) trait JsonValue<'v>: Sized + 'v {
     /// An iterator over the members of a JSON object.
     type Object;

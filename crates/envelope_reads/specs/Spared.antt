@@ -7,7 +7,8 @@ use Rattle.serde_json.specs.Find.{as_str, as_bool}
 use Rattle.doc_json.specs.declared.fault.DocFault.{DocFault}
 use Rattle.doc_json.specs.declared.fault.DocFault.TheVariants as faults
 
--- Whether an error of reading a document is about members that an envelope wraps.
+-- Whether an error of reading a document is about members that the document's envelope has only inside its string
+-- `whole`.
 abbrev pub looks_into : DocFault → Bool
 looks_into faults.NotObject = false
 looks_into faults.NoId = false

@@ -114,7 +114,8 @@ fn member_at_fault<'v>(name: &str, object: &'v LineValue<'_>) -> Option<&'v str>
     None
 }
 
-/// Whether a member of a document, or of a body without a document, causes a given error.
+/// Whether a member of a line's `doc`, or of the `body` of a line without `doc` (if `is_body` is true), causes the
+/// error with the given name.
 fn is_at_fault(name: &str, member: &str, value: &LineValue<'_>, is_body: bool) -> bool {
     if is_same_text("Fraction", name) {
         return has_fraction(value);

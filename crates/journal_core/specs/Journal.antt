@@ -31,8 +31,8 @@ unfoldable pub first_seq : List ℕ
 first_seq = codes "0"
 
 -- The lines of a journal are blocks with right checksums. The second and third arguments of `Confirmed` are the hash
--- and the sequence of the last block. For a journal without blocks, these two arguments are `first_chain` and
--- `first_seq`.
+-- and the sequence of the last block. For a journal without blocks, the second argument of `Confirmed` is
+-- `first_chain`, and the third argument is `first_seq`.
 pub data Confirmed : List (List ℕ) → List ℕ → List ℕ → Type 0 where
   nothing : Confirmed [] first_chain first_seq
   block : {lines : List (List ℕ)} {chain seq : List ℕ} (body : List (List ℕ)) (next : List ℕ) → Confirmed lines chain seq

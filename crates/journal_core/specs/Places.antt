@@ -53,7 +53,7 @@ abbrev pub ended_by : Place → List ℕ → Option (List ℕ) → Place
 ended_by place line None = damaged place
 ended_by place line (Some hash) = closed place line hash
 
--- The place of a journal reader after a line that ends a block, whether its checksum is right or wrong.
+-- The place of a journal reader after a line that ends a block. The checksum of the block may be right or wrong.
 abbrev pub ended : Place → List ℕ → Place
 ended place line = ended_by place line (end_in place line)
 

@@ -44,7 +44,8 @@ EndsSeal old rest text new =
     (new.wrong ≡ None → EndsRight old rest text) × ((count : ℕ) → new.wrong ≡ Some count → EndsWrong old rest text count)
 
 -- The input satisfies the predicate `given`, and consists of the lines of a block. The line that ends the block is
--- written. With the written line, the block continues every confirmed journal that ends with the hash `chain`.
+-- written. If a confirmed journal has the last hash `chain`, the journal stays confirmed after the block's lines and
+-- the written line are appended (`Confirmed`).
 pub record IsSealedOn (chain seq : List ℕ) (given : List ℕ → Type 0) (held held' : Option (List ℕ)) : Type 0 where
   pub lines : List (List ℕ)
   pub gives : given (joined lines)
@@ -71,13 +72,13 @@ abbrev pub SealsOn : List ℕ → List ℕ → (List ℕ → Type 0) → Option 
 SealsOn chain seq given held held' None = IsSealedOn chain seq given held held'
 SealsOn chain seq given held held' (Some count) = IsUnsealedOn count given held held'
 
--- The result of sealing a block from the bytes `left`, which the reader had not yet returned before the call.
+-- The result of a call that seals a block. The input of the call is the list of bytes `left`, namely all bytes that the
+-- reader had not returned before the call.
 abbrev pub SealsBlock : List ℕ → List ℕ → Option (List ℕ) → Option (List ℕ) → Option (List ℕ) → Option ℕ → Type 0
 SealsBlock chain seq left held held' wrong = SealsOn chain seq (Gives left) held held' wrong
 
--- The result of a call that reads the lines of a block, and writes the line that ends (seals) the block. The call's
--- input consists of the bytes that its reads returned. The arguments `taken` and `taken'` are the reader's histories of
--- returned bytes before and after the call.
+-- The result of a call that seals a block. The input of the call is the list of bytes that the reads during the call
+-- returned. The arguments `taken` and `taken'` are the reader's histories of returned bytes before and after the call.
 abbrev pub HasSealed : List ℕ → List ℕ → Option (List ℕ) → Option (List ℕ) → Option (List ℕ) → Option (List ℕ) → Option ℕ → Type 0
 HasSealed chain seq taken taken' held held' wrong = SealsOn chain seq (Appends taken taken') held held' wrong
 

@@ -12,14 +12,14 @@ use std::alloc::{AllocError, Global};
 /// The parsed form of a line of a journal.
 #[derive(Drop)]
 pub enum Entry {
-    /// A state line, which lists the leaves of a document at a sequence.
+    /// A `state` line, which lists the leaves of a document at a sequence.
     State(Leaves),
-    /// A lacks line, which lists the requested leaves of a document because the source did not return all of these
+    /// A `lacks` line, which lists the requested leaves of a document because the source did not return all of these
     /// leaves.
     Lacks(Leaves),
     /// A line with a document.
     Leaf(Leaf),
-    /// A journal line that is neither a state line, nor a lacks line, nor a line with a document.
+    /// A journal line that is neither a `state` line, nor a `lacks` line, nor a line with a document.
     Wrong,
 }
 
@@ -39,7 +39,7 @@ pub fn entry_of(alloc: Global, scratch: &mut Scratch, line: &[u8]) -> Result<Ent
     }
 }
 
-/// Parses the text of a state line after `state `. Returns `Wrong` if the text does not list leaves.
+/// Parses the text of a `state` line after `state `. Returns `Wrong` if the text does not list leaves.
 fn state_of(alloc: Global, scratch: &mut Scratch, rest: &[u8]) -> Result<Entry, AllocError>
     ensures { IfOk result (λ entry. entry_view entry ≡ state_or_wrong (leaves_in rest.now)) }
 {
@@ -49,7 +49,7 @@ fn state_of(alloc: Global, scratch: &mut Scratch, rest: &[u8]) -> Result<Entry, 
     }
 }
 
-/// Parses the text of a lacks line after `lacks `. Returns `Wrong` if the text does not list leaves.
+/// Parses the text of a `lacks` line after `lacks `. Returns `Wrong` if the text does not list leaves.
 fn lacks_of(alloc: Global, scratch: &mut Scratch, rest: &[u8]) -> Result<Entry, AllocError>
     ensures { IfOk result (λ entry. entry_view entry ≡ lacks_or_wrong (leaves_in rest.now)) }
 {

@@ -4,8 +4,8 @@ use Rattle.std.specs.Option.{option_or}
 use Rattle.journal_core.specs.Wrong.{first_index}
 use Rattle.journal_tasks.specs.declared.count.Count.{Count}
 
--- The number of the first wrong line: `before`, if an earlier line is wrong, otherwise `number`, the number of a wrong
--- line.
+-- The number of the first wrong line, if the line with the number `number` is wrong. The argument `before` is the
+-- number of the first wrong line among the lines before the line `number`, if such a line is wrong.
 abbrev pub failed : Option ℕ → ℕ → Option ℕ
 failed before number = option_or before (Some number)
 

@@ -93,8 +93,9 @@ passed_on only lines = flat_map (passed_line only (requested_in (first_part line
 abbrev pub is_empty : List (List ℕ) → Bool
 is_empty revs = nat_eq (length revs) 0
 
--- The lines that are printed for the leaves in a line of the request. The argument `missing` lists the leaves of the
--- request's line that were not received. The argument `received` lists the received leaves of the line's document.
+-- The lines that the task prints for one line of the request, which requests the leaves `leaves`. The argument
+-- `missing` lists those of the leaves in `leaves` that were not received. The argument `received` lists the received
+-- leaves of the document of `leaves`.
 abbrev pub told_of : Bool → List (List ℕ) → List (List ℕ) → LeavesView → List ℕ
 told_of true received missing leaves =
     if is_empty missing then [] else leaves_line (codes "state") leaves.0 leaves.1 missing
@@ -102,7 +103,8 @@ told_of false received missing leaves =
     leaves_line (codes "state") leaves.0 leaves.1 received
     ++ (if is_empty missing then [] else leaves_line (codes "lacks") leaves.0 leaves.1 leaves.2)
 
--- The lines that are printed for the leaves in a line of the request, if the response has the documents `heads`.
+-- The lines that the task prints for one line of the request, which requests the leaves `leaves`. The argument `heads`
+-- lists the ids and leaves of the documents in the response.
 abbrev pub told : Bool → List HeadView → LeavesView → List ℕ
 told only heads leaves = told_of only (received_leaves heads leaves.1) (missing_in heads leaves) leaves
 
@@ -143,36 +145,36 @@ doc_at docs id = option_map doc_view (get_by_text docs id)
 abbrev pub doc_or_new : Option DocView → DocView
 doc_or_new doc = unwrap_or doc ([], [])
 
--- A requested revision after the leaf `arrived` was received. The revision counts as received if it was received
--- before, or is the leaf or an ancestor of the leaf.
+-- The new data about a requested revision when the task receives the leaf `arrived`. The requested revision counts as
+-- received if it was received before, or if it is the leaf `arrived` or an ancestor of this leaf.
 abbrev pub received_by : LeafView → WantedView → WantedView
 received_by arrived wanted = (wanted.0, wanted.1 || knows_rev arrived wanted.0)
 
--- The data stored for a document after the document's revisions `revs` were requested.
+-- The new data about a document when the task reads that the document's revisions `revs` are requested.
 abbrev pub with_wanted : List (List ℕ) → DocView → DocView
 with_wanted revs doc = (doc.0 ++ map (λ rev. (rev, false)) revs, doc.1)
 
--- The data stored for a document after the document's leaf `arrived` was received.
+-- The new data about a document when the task receives the document's leaf `arrived`.
 abbrev pub with_leaf : LeafView → DocView → DocView
 with_leaf arrived doc = (map (received_by arrived) doc.0, add_rev doc.1 arrived.0)
 
--- The data stored for every document after `leaves`, leaves of one document, were requested.
+-- The new data about each document `id` when the task reads that the leaves `leaves` of one document are requested.
 abbrev pub wanted_at : LeavesView → (List ℕ → Option DocView) → List ℕ → Option DocView
 wanted_at leaves docs id =
     if bytes_eq leaves.1 id then Some (with_wanted leaves.2 (doc_or_new (docs leaves.1))) else docs id
 
--- The data stored for every document after a line of the request was read.
+-- The new data about each document `id` when the task reads a line of the request.
 abbrev pub requested_by : EntryView → (List ℕ → Option DocView) → List ℕ → Option DocView
 requested_by (state leaves) docs id = wanted_at leaves docs id
 requested_by (lacks leaves) docs id = wanted_at leaves docs id
 requested_by (leaf head) docs id = docs id
 requested_by wrong docs id = docs id
 
--- The data stored for every document after a leaf of one document was received.
+-- The new data about each document `id` when the task receives a leaf of one document.
 abbrev pub leaf_at : HeadView → (List ℕ → Option DocView) → List ℕ → Option DocView
 leaf_at head docs id = if bytes_eq head.0 id then option_map (with_leaf head.1) (docs head.0) else docs id
 
--- The data stored for every document after a line of the response was read.
+-- The new data about each document `id` when the task reads a line of the response.
 abbrev pub answered_by : EntryView → (List ℕ → Option DocView) → List ℕ → Option DocView
 answered_by (state leaves) docs id = docs id
 answered_by (lacks leaves) docs id = docs id
@@ -190,12 +192,12 @@ is_stored wrong docs = false
 abbrev pub is_marked : List WantedView → List ℕ → Bool
 is_marked wanted rev = list_any (λ item. item.1 && bytes_eq item.0 rev) wanted
 
--- The revisions in `revs` of which the list `wanted` does not say that they were received.
+-- The revisions in `revs` that the list `wanted` does not mark as received.
 abbrev pub unmarked : List WantedView → List (List ℕ) → List (List ℕ)
 unmarked wanted revs = filter (λ rev. not (is_marked wanted rev)) revs
 
--- The lines that are printed for the leaves in a line of the request, if `doc` is the data that is stored for the
--- line's document.
+-- The lines that the task prints for one line of the request, which requests the leaves `leaves`. The task prints these
+-- lines if it has stored the data `doc` for the document of `leaves`.
 abbrev pub told_by : Bool → Option DocView → LeavesView → List ℕ
 told_by only None leaves = []
 told_by only (Some doc) leaves = told_of only doc.1 (unmarked doc.0 leaves.2) leaves

@@ -9,11 +9,12 @@ use json::Scratch;
 use line_reader::LineTask;
 use std::alloc::{AllocError, Global};
 
-/// The task's input is a list of leaves, an empty line and a second list of leaves. The task prints for each line of
-/// the second list the leaves that the first list does not have. With the option `documents`, the task prints only
-/// documents that the first list does not have, and prints all leaves of these documents.
+/// The task's input is a first list of leaves, an empty line, and a second list of leaves. For each line of the second
+/// list of leaves, the task prints the leaves that the first list of leaves does not have. With the option `documents`,
+/// the task prints the documents that the second list of leaves has and the first list of leaves does not have, with
+/// all their leaves.
 ///
-/// The task holds the first list in memory.
+/// The task holds in memory the first of the two lists of leaves in its input.
 #[derive(Drop)]
 pub struct Compare {
     alloc: Global,
@@ -50,7 +51,7 @@ impl Compare {
         self.count.wrong
     }
 
-    /// Adds a document that has no leaves yet to the first list.
+    /// Adds a document without leaves to the first list of leaves in the task's input.
     fn add_doc(&mut self, id: String) -> Result<(), AllocError> {
         if !self.docs.contains_key(id.as_str()) {
             self.docs.insert(id, IndexSet::new(self.alloc))?;
@@ -58,7 +59,7 @@ impl Compare {
         Ok(())
     }
 
-    /// If the task prints output for a line of the second list, appends this output.
+    /// If the task prints output for a line of the second list of leaves in the task's input, appends this output.
     fn push(&self, text: &mut Vec<u8>, leaves: Leaves) -> Result<(), AllocError> {
         let Leaves { seq, id, revs } = leaves;
         if self.documents && self.docs.contains_key(id.as_str()) {
@@ -83,7 +84,7 @@ impl Compare {
         )
     }
 
-    /// Reads a line of the first list.
+    /// Reads a line of the first list of leaves in the task's input.
     fn first_line(&mut self, line: &[u8]) -> Result<(), AllocError> {
         if !add_entry(self.alloc, &mut self.scratch, &mut self.docs, line)? {
             self.count.fail();
@@ -94,7 +95,7 @@ impl Compare {
         }
     }
 
-    /// Reads a line of the second list.
+    /// Reads a line of the second list of leaves in the task's input.
     fn second_line(&mut self, line: &[u8], text: &mut Vec<u8>) -> Result<(), AllocError> {
         match entry_of(self.alloc, &mut self.scratch, line)? {
             Entry::State(leaves) | Entry::Lacks(leaves) => self.push(text, leaves),

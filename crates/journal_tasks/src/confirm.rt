@@ -9,9 +9,9 @@ use line_reader::{LineTask, run_task};
 use script_engine::{ScriptFault, ScriptRead, ScriptWrite};
 use std::alloc::{AllocError, Global};
 
-/// Prints the size and the last block of the longest prefix of a journal that the journal's checksums confirm. For each
-/// document that still lacks leaves, the task also prints the document's last `lacks` line in the confirmed prefix. If
-/// the task is given a sequence, the prefix ends at the last block whose end line names this sequence.
+/// Prints the size and the last block of the longest prefix of a journal that the journal's checksums confirm. The task
+/// also prints the `lacks` lines of the confirmed prefix, each of which names a document that still lacks leaves. If
+/// the task is given a sequence, the prefix ends at the last block of this sequence.
 ///
 /// The task holds in memory one block, and the lines that the task prints.
 #[derive(Drop)]

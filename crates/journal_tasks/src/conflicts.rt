@@ -54,7 +54,7 @@ fn is_ancestor(alloc: Global, leaves: &[Leaf], rev: &str) -> Result<bool, AllocE
     Ok(false)
 }
 
-/// Returns the ranks of the leaves among the given revisions, lowest rank first.
+/// Returns the ranks of those given revisions that are not an ancestor of another given revision, lowest rank first.
 fn ranks_of(alloc: Global, leaves: &[Leaf]) -> Result<Vec<Rank>, AllocError> {
     let mut ranks = Vec::new(alloc);
     for (index, leaf) in leaves.iter().enumerate() {

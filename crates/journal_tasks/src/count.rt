@@ -15,7 +15,7 @@ pub(crate) struct Count {
 }
 
 impl Count {
-    /// Returns the count before the first line.
+    /// Returns the line count of a task that has read no line yet.
     pub(crate) fn new() -> Count
         ensures { result ≡ record { lines = 0; wrong = None } }
     {

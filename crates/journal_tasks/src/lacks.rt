@@ -5,8 +5,9 @@ use json::Scratch;
 use memchr::memchr;
 use std::alloc::{AllocError, Global};
 
-/// A table of documents that still lack leaves. For each document, the table has the last lacks line (a line that says
-/// that leaves are missing), unless a later state line of the document follows.
+/// A table of documents that still lack leaves. For each document, the table has the document's last `lacks` line,
+/// unless a later line is a `state` line of the same document. A `lacks` line says that not all requested leaves of a
+/// document were received.
 #[derive(Drop)]
 pub(crate) struct Lacks {
     alloc: Global,
@@ -15,7 +16,7 @@ pub(crate) struct Lacks {
 }
 
 impl Lacks {
-    /// Returns a table without lacks lines.
+    /// Returns a table that has no `lacks` lines.
     pub(crate) fn new(alloc: Global) -> Lacks {
         Lacks {
             alloc,
@@ -35,8 +36,8 @@ impl Lacks {
         self.note_entry(&entry, line)
     }
 
-    /// Reads a state line or a lacks line. A state line removes its document's lacks line, and a lacks line becomes its
-    /// document's last lacks line.
+    /// Reads a `state` line or a `lacks` line. For a `state` line, the call removes the table's line about the same
+    /// document. For a `lacks` line, the call replaces the table's line about the same document.
     fn note_entry(&mut self, entry: &Entry, line: &[u8]) -> Result<(), AllocError> {
         match entry {
             Entry::State(leaves) => {
@@ -48,13 +49,13 @@ impl Lacks {
         }
     }
 
-    /// Removes the lacks line of a document from the table, if the document has one.
+    /// Removes the line about a document from the table, if the table has a line about this document.
     fn remove(&mut self, id: &str) {
         let _line = self.lines.shift_remove(id);
     }
 
-    /// Adds a document's new `lacks` line (a line that says that leaves are missing) at the end of the table, and
-    /// removes the document's earlier `lacks` line.
+    /// Removes the line about a document from the table, and adds a new line about this document at the end of the
+    /// table.
     fn put(&mut self, id: &str, line: &[u8]) -> Result<(), AllocError> {
         self.remove(id);
         let line = Vec::from_slice(self.alloc, line)?;
@@ -75,7 +76,7 @@ impl Lacks {
         Ok(())
     }
 
-    /// Appends the lacks lines to the text.
+    /// Appends all lines of the table to the text.
     pub(crate) fn push(&self, text: &mut Vec<u8>) -> Result<(), AllocError> {
         for index in 0..self.lines.len() {
             if let Some((_, line)) = self.lines.get_index(index) {

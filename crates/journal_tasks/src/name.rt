@@ -17,7 +17,7 @@ pub struct Name {
 }
 
 impl Name {
-    /// Creates the task with the word that begins each line.
+    /// Creates the task. Each line that the task prints begins with `word`.
     pub fn new(alloc: Global, word: &str) -> Result<Name, AllocError> {
         let word = Vec::from_slice(alloc, word.as_bytes())?;
         Ok(Name {

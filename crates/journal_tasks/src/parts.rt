@@ -7,9 +7,9 @@ use journal_core::added;
 use line_reader::LineTask;
 use std::alloc::{AllocError, Global};
 
-/// Splits lines, in order, into parts of at most `most_lines` lines and `most_bytes` bytes. Each part has at least one
-/// line. For each part, the task prints a line with the part's numbers of lines and bytes, followed by the part's
-/// lines.
+/// Splits the lines of the input, in order, into parts of at most `most_lines` lines and `most_bytes` bytes. Each part
+/// of the input has at least one line, even if this line alone exceeds a maximum. For each part, the task prints a line
+/// with the part's numbers of lines and bytes, followed by the part's lines.
 ///
 /// The task holds one part in memory.
 #[derive(Drop)]

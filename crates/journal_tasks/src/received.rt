@@ -38,9 +38,10 @@ struct Doc {
 type Docs = IndexMap<String, Doc>;
 
 /// The input of the task `received` is the requested leaves, an empty line, and the received documents. The task prints
-/// the requested documents. For each line of the request, the task prints a state line with the received leaves, and a
-/// lacks line with the requested leaves if a leaf was not received. With `only_lacks`, the task prints no documents, and
-/// only state lines with the leaves that were not received. The task holds the request in memory.
+/// the requested documents. For each line of the request, the task prints a line that begins with `state` and lists the
+/// received leaves. If a requested leaf in a line of the request was not received, the task also prints a line that
+/// begins with `lacks` and lists the requested leaves. With `only_lacks`, the task prints no documents, and prints only
+/// `state` lines that list the leaves that were not received. The task holds the request in memory.
 #[derive(Drop)]
 pub struct Received {
     alloc: Global,

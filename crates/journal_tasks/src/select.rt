@@ -83,8 +83,8 @@ impl Select {
         self.blocks.lines()
     }
 
-    /// Whether the first copy of the journal does not have the expected size, or has a part that the journal's
-    /// checksums do not confirm.
+    /// Whether the journal's first copy does not consist of `size` bytes in complete lines, or has a part that no right
+    /// checksum confirms. If the task ignores checksums (`unverified`), only the size matters.
     pub fn is_damaged(&self) -> bool {
         self.damaged
     }
@@ -114,7 +114,7 @@ impl Select {
         Ok(())
     }
 
-    /// Reads a line of the journal's first copy that has no checksum.
+    /// Reads a line of the journal's first copy. The line is not a checksum line (the line that ends a block).
     fn note(&mut self, line: &[u8]) -> Result<(), AllocError> {
         match entry_of(self.alloc, &mut self.scratch, line)? {
             Entry::State(leaves) => self.map.name(leaves),
@@ -191,7 +191,7 @@ impl Select {
         Ok(())
     }
 
-    /// Reads a line of the second copy, and appends the line to the output if the line is selected.
+    /// Reads a line of the journal's second copy, and appends the line to the output if the line is selected.
     fn second_line(&mut self, line: &[u8], text: &mut Vec<u8>) -> Result<(), AllocError> {
         if self.selected.get(self.next).copied() != Some(self.count.lines) {
             return Ok(());

@@ -16,7 +16,7 @@ pub(crate) struct State {
     pub(crate) seq: String,
     /// The leaf revisions of the document.
     pub(crate) revs: Vec<String>,
-    /// Whether a state line of the journal gives the state.
+    /// Whether this state of a document was read from a `state` line of the journal.
     pub(crate) named: bool,
 }
 
@@ -33,7 +33,7 @@ pub(crate) fn has_rev(revs: &[String], rev: &str) -> bool {
 }
 
 impl StateMap {
-    /// Returns a map that has no states.
+    /// Returns a map of the last states of documents. The map has no documents yet.
     pub(crate) fn new(alloc: Global) -> StateMap {
         StateMap {
             alloc,
@@ -59,7 +59,7 @@ impl StateMap {
         Ok(place)
     }
 
-    /// Replaces the state of a document by the state that a state line gives.
+    /// Replaces the state of a document by the state that was read from a `state` line of the journal.
     pub(crate) fn name(&mut self, leaves: Leaves) -> Result<(), AllocError> {
         let Leaves { seq, id, revs } = leaves;
         let place = self.place_of(id.as_str())?;
@@ -73,7 +73,7 @@ impl StateMap {
         Ok(())
     }
 
-    /// Adds a leaf to the state of a document, unless a state line gives the state.
+    /// Adds a leaf to the state of a document, unless this state was read from a `state` line of the journal.
     pub(crate) fn add(&mut self, leaf: &Leaf) -> Result<(), AllocError> {
         let place = self.place_of(leaf.id.as_str())?;
         if let Some(state) = self.states.get_mut(place) {
@@ -86,7 +86,7 @@ impl StateMap {
         Ok(())
     }
 
-    /// Appends a state line for each document.
+    /// Appends a `state` line for each document.
     fn push(&self, text: &mut Vec<u8>) -> Result<(), AllocError> {
         for index in 0..self.places.len() {
             if let Some((id, place)) = self.places.get_index(index) {
@@ -146,12 +146,13 @@ impl States {
         self.blocks.lines()
     }
 
-    /// Whether the checksums do not confirm the complete journal.
+    /// Whether the journal ends with an incomplete line, or has a line that no right checksum confirms. If the task
+    /// ignores checksums (`unverified`), the call only finds an incomplete last line.
     pub fn is_damaged(&self) -> bool {
         self.damaged
     }
 
-    /// Reads a journal line that has no checksum.
+    /// Reads a line of the journal. The line is not a checksum line (the line that ends a block).
     fn note(&mut self, line: &[u8]) -> Result<(), AllocError> {
         match entry_of(self.alloc, &mut self.scratch, line)? {
             Entry::State(leaves) => self.map.name(leaves),

@@ -44,12 +44,13 @@ pub record IsDoneOn {S : Type 0} (steps ends : Steps S) (start : S) (given : Lis
   pub ended : ends last rest last_text state
   pub written : Appends held held' (text ++ last_text)
 
--- A task has run over all bytes that the reader had not yet returned before the run (`left`).
+-- A task has read its complete input (`IsDoneOn`). The input is `left`, the bytes that the reader had not returned
+-- before the task ran.
 abbrev pub IsDone : {S : Type 0} → Steps S → Steps S → S → Option (List ℕ) → Option (List ℕ) → S → Option (List ℕ) → Type 0
 IsDone steps ends start left held state held' = IsDoneOn steps ends start (Gives left) held state held'
 
--- A task has run over all bytes that the reader returned during a call. The arguments `taken` and `taken'` are the
--- bytes that the reader had returned before and after the call.
+-- A task has read its complete input (`IsDoneOn`). The input is the bytes that the reader returned during a call. The
+-- arguments `taken` and `taken'` are the bytes that the reader had returned before and after the call.
 abbrev pub HasDone : {S : Type 0} → Steps S → Steps S → S → Option (List ℕ) → Option (List ℕ) → Option (List ℕ) → S → Option (List ℕ)
     → Type 0
 HasDone steps ends start taken taken' held state held' = IsDoneOn steps ends start (Appends taken taken') held state held'

@@ -47,8 +47,8 @@ pub record EndsIn (column : Column) (n : ℕ) (front text : List ℕ) : Type 0 w
   pub form : text ≡ front ++ named (column_text column) word
   pub number : IsNumber word n
 
--- The text ends with the given columns, which have the given numbers, the last column first. The text before the
--- columns is `front`.
+-- The text consists of `front` and then the given columns with the given numbers. The lists `columns` and `numbers` are
+-- in reverse order: both begin with the item for the text's last column.
 abbrev pub Ends : List Column → List ℕ → List ℕ → List ℕ → Type 0
 Ends columns numbers front text = InTurn EndsIn columns numbers front text
 

@@ -140,8 +140,8 @@ fn begins_with(revs: &[Rev], own: &[u8]) -> bool
     revs[0] == own
 }
 
-/// Parses a line that has a given first word, a document id and revisions. Returns `None` if the line does not have
-/// this form.
+/// Parses a line that has a given first word, a document id and revisions. Returns `None` if the line does not consist
+/// of this word, an id and revisions.
 fn read_listed<'a>(
     alloc: Global,
     line: &'a [u8],

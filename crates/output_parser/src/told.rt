@@ -236,7 +236,8 @@ impl Member {
         }
     }
 
-    /// Returns the byte after the member's value, which is a comma, or the quotation mark that ends a string.
+    /// Returns the byte that follows the value of a member: the closing quotation mark if the value is a string, and
+    /// otherwise a comma.
     pub fn end(self) -> u8
         ensures { result ≡ member_end self }
     {

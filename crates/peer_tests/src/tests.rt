@@ -2,8 +2,8 @@
 //! string.
 //!
 //! A bench, which is a test fixture, holds the databases or peers of a test, and the values that calls on these
-//! databases or peers returned. Each kind of call is a variant of an enum. The code that performs a variant is proved
-//! once. A test is only a table of calls, and needs no further proof.
+//! databases or peers returned. Each kind of call is a variant of an enum. The code that performs the calls of one kind
+//! is proved once, and all tests use this code. A test is only a table of calls, and needs no further proof.
 
 // Calls on databases.
 mod database_rows;
@@ -34,7 +34,7 @@ mod carried;
 mod pool_rows;
 mod pools;
 
-// Tests of pool runs in which a gate, which the workers call, observes, blocks or stops the workers.
+// Tests of pool runs in which a gate (a function that the workers call) observes, blocks or stops the workers.
 mod pool_boards;
 mod pool_gates;
 mod pool_orders;

@@ -8,7 +8,7 @@ use Rattle.progress_board.specs.declared.seat.BoardSeat.{BoardSeat}
 use Rattle.pool_workers.specs.Sums.{total}
 use Rattle.pool_workers.specs.declared.fault.Halt.{Halt}
 
--- Seat s is a seat of board b, and belongs to a worker.
+-- The value s is a seat (an access token) of the progress board b, and belongs to a worker.
 abbrev pub WorksAt : Board → BoardSeat → Type 0
 WorksAt b s = CameWith b s × (s.works ≡ true)
 
@@ -33,7 +33,8 @@ read_on seats = total (λ (s : BoardSeat). s.read) seats
 abbrev pub settled_on : List BoardSeat → ℕ
 settled_on seats = total (λ (s : BoardSeat). s.settled) seats
 
--- The seats `now` show n more read documents and n more settled documents than the seats `given`.
+-- From the seats `given` to the seats `now`, the sum of the read counters and the sum of the settled counters each rise
+-- by n.
 abbrev pub HaveRisenBy : ℕ → List BoardSeat → List BoardSeat → Type 0
 HaveRisenBy n given now = (read_on now ≡ read_on given + n) × (settled_on now ≡ settled_on given + n)
 
@@ -44,14 +45,15 @@ abbrev pub MayFill : Option Board → Type 0
 MayFill None = ⊥
 MayFill (Some b) = Unit {0}
 
--- If there is a board, all seats of the list are worker seats of the board. If there is no board, the list has no
--- seats.
+-- If the run has a progress board, each seat in the list `seats` is a worker's seat of this board. If the run has no
+-- progress board, the list is empty.
 abbrev pub AreSeated : Option Board → List BoardSeat → Type 0
 AreSeated None seats = seats ≡ []
 AreSeated (Some b) seats = All (WorksAt b) seats
 
--- If there is a board, all seats of the list are worker seats of the board. The number of seats in the list, plus the
--- number `out` of seats in use, is at least the number of workers. If there is no board, the list has no seats.
+-- If the run has a progress board, each seat in the list `seats` is a worker's seat of this board. If the run has a
+-- progress board, the length of `seats` plus `out` (the number of seats in use) is at least the number of workers. If
+-- the run has no progress board, the list is empty.
 abbrev pub AreSeats : Option Board → ℕ → ℕ → List BoardSeat → Type 0
 AreSeats None out workers seats = seats ≡ []
 AreSeats (Some b) out workers seats = (workers ≤ length seats + out) × All (WorksAt b) seats
@@ -61,8 +63,8 @@ abbrev pub AreBack : Option Board → List BoardSeat → List BoardSeat → Type
 AreBack None given now = (given ≡ []) × (now ≡ [])
 AreBack (Some b) given now = AreRisen b given now
 
--- If there is a board, the seats `now` show n more settled documents than the seats `given`. If there is a board and no
--- writer was stopped, the seats `now` show n more read documents than the seats `given`.
+-- If the run has a progress board, the sum of the settled counters rises by n from the seats `given` to the seats
+-- `now`. If the run has a progress board and no writer was stopped, the sum of the read counters rises by n.
 abbrev pub HaveShown : Option Board → ℕ → Option Halt → List BoardSeat → List BoardSeat → Type 0
 HaveShown None n stopped given now = Unit {0}
 HaveShown (Some b) n stopped given now =
@@ -75,35 +77,36 @@ IsSeated None None = Unit {0}
 IsSeated (Some b) (Some s) = WorksAt b s
 IsSeated board seat = ⊥
 
--- If there is a board, seat t is seat s after n more documents were read. If there is no board, seat t equals seat s.
+-- The values s and t are a writer's seat (the writer's access token to the progress board) before and after the writer
+-- read n more documents. If the run has no progress board, s and t are equal.
 abbrev pub HasRead : Option Board → ℕ → Option BoardSeat → Option BoardSeat → Type 0
 HasRead None n s t = t ≡ s
 HasRead (Some b) n (Some s) (Some t) =
     WorksAt b t × (t.number ≡ s.number) × (t.read ≡ s.read + n) × (t.settled ≡ s.settled)
 HasRead (Some b) n s t = ⊥
 
--- After n more read documents, the seat's read counter would exceed its maximum.
+-- If a writer with the seat s read n more documents, the seat's read counter would exceed its maximum.
 abbrev pub IsFullFor : ℕ → Option BoardSeat → Type 0
 IsFullFor n None = ⊥
 IsFullFor n (Some s) = most < s.read + n
 
--- The seat may show n more documents as settled without exceeding the number that it shows as read.
+-- If a writer with the seat s settled n more documents, the seat's settled counter would not exceed the seat's read
+-- counter.
 abbrev pub HasRoom : Option Board → ℕ → Option BoardSeat → Type 0
 HasRoom (Some b) n (Some s) = s.settled + n ≤ s.read
 HasRoom board n seat = Unit {0}
 
--- If there is a board, seat t is the writer's seat s (the writer's counters on the board) after the count of settled
--- documents rose from a to z. If there is no board, seat t equals seat s.
+-- The values s and t are a writer's seat (the writer's access token to the progress board) before and after the writer
+-- settled z - a more documents. If the run has no progress board, s and t are equal.
 abbrev pub HasSettled : Option Board → ℕ → ℕ → Option BoardSeat → Option BoardSeat → Type 0
 HasSettled None a z s t = t ≡ s
 HasSettled (Some b) a z (Some s) (Some t) =
     WorksAt b t × (t.number ≡ s.number) × (t.read ≡ s.read) × (t.settled + a ≡ s.settled + z)
 HasSettled (Some b) a z s t = ⊥
 
--- If there is a board, seat t is the writer's seat s (the writer's counters on the board) after the count of settled
--- documents rose from a to z. The read counter of t is at least the read counter of s. If the writer was not stopped,
--- the read counter of t exceeds the read counter of s by the difference between z and a. If there is no board, seat t
--- equals seat s.
+-- The values s and t are a writer's seat (the writer's access token to the progress board) before and after the writer
+-- settled z - a more documents. The read counter of t is at least the read counter of s. If the writer was not stopped,
+-- the read counter of t exceeds the read counter of s by z - a. If the run has no progress board, s and t are equal.
 abbrev pub HasWritten : Option Board → ℕ → ℕ → Option Halt → Option BoardSeat → Option BoardSeat → Type 0
 HasWritten None a z stopped s t = t ≡ s
 HasWritten (Some b) a z stopped (Some s) (Some t) =

@@ -56,7 +56,7 @@ AllowsOn may_fill may_stop (halts.Refused fault) = IsStepFault fault
 AllowsOn may_fill may_stop halts.BoardFull = may_fill
 AllowsOn may_fill may_stop halt = Unit {0}
 
--- The reasons for which a worker may halt if the run has no board.
+-- The reasons for which a worker may halt in a run without a progress board.
 abbrev pub Allows : (Place → Type 0) → Halt → Type 0
 Allows may_stop halt = AllowsOn ⊥ may_stop halt
 

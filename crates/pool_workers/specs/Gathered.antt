@@ -29,8 +29,8 @@ abbrev pub IsOneOf : Option Halt → Option Halt → Halt → Type 0
 IsOneOf a b h = (a ≡ Some h) ⊎ ((b ≡ Some h) ⊎ (h ≡ CountFull))
 
 module _ {S L : Type 0} where
-  -- After all workers have ended, the caller's thread has all parts of each channel's pass (the right to use the
-  -- channel), and each writer's part of the ledger. A pass has a meaning only in proofs.
+  -- After all workers have ended, the caller's thread has the complete pass of each channel, and each writer's part of
+  -- the ledger. A pass is the ghost right to use a channel, and has 1,024 parts.
   abbrev pub IsWhole : ℕ → Ended S L → Type 0
   IsWhole workers e = ((view e.windows).parts ≡ 1024) × ((view e.parcels).parts ≡ 1024) × (e.all.parts ≡ workers)
 
@@ -40,8 +40,8 @@ module _ {S L : Type 0} where
   Tells e =
       FetchedKnows (view e.windows) (view e.parcels) e.fetched × WrittenKnows (view e.parcels) e.all.amount e.written
 
-  -- The reader, a fetcher or a writer halted only for a reason that `AllowsOn` lists. Only a writer halts because a
-  -- board is full.
+  -- The reader, a fetcher or a writer halted only for a reason that `AllowsOn` lists. Only a writer may halt because a
+  -- count on the progress board would exceed its maximum (`BoardFull`).
   abbrev pub StopsWhere : Type 0 → (Place → Type 0) → Ended S L → Type 0
   StopsWhere may_fill may_stop e =
       IfSome e.read (Allows may_stop) × IfSome e.fetched.stopped (Allows may_stop)

@@ -10,8 +10,8 @@ use Rattle.pool_workers.specs.declared.parcels.ParcelMessage.TheVariants.{Parcel
 abbrev pub parcel_view : ℕ → List (ℕ × ℕ) → List (ℕ × ℕ) → ParcelView
 parcel_view parts sent got = record { parts = parts; sent = sent; got = got }
 
--- A thread that has no part of the parcel channel's pass has sent and received no parcels. A channel's pass is the
--- right to use the channel, and has a meaning only in proofs.
+-- A thread that has no part of the parcel channel's pass (the ghost right to use the channel) has sent no parcel and
+-- has received no parcel.
 abbrev pub IdleIsEmpty : List ParcelView → Type 0
 IdleIsEmpty views =
     (port : ℕ) (v : ParcelView) → get_elem? views port ≡ some v → v.parts ≡ 0 → (v.sent ≡ []) × (v.got ≡ [])
@@ -38,7 +38,7 @@ module _ {S : Type 0} where
       ≡ total (λ (v : ParcelView). weigh h v.got) views + weigh h (parcels items))
       × IdleIsEmpty views
 
-  -- What a thread with the complete pass of the parcel channel knows: the sent parcels are the received and the queued
-  -- parcels.
+  -- What a thread knows if the thread has the complete pass (the ghost right to use a channel) of the channel of
+  -- parcels. The sent parcels are exactly the received parcels and the parcels that are still in the channel.
   abbrev pub Accounts : ParcelView → List (ParcelMessage S) → Type 0
   Accounts v items = (h : ℕ → ℕ → ℕ) → weigh h v.sent ≡ weigh h v.got + weigh h (parcels items)

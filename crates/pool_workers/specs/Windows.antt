@@ -10,8 +10,8 @@ use Rattle.pool_workers.specs.declared.windows.WindowMessage.TheVariants.{Window
 abbrev pub window_view : ℕ → ℕ → ℕ → List ℕ → WindowView
 window_view parts reads count taken = record { parts = parts; reads = reads; count = count; taken = taken }
 
--- Only the page reader has sent windows. A thread that has no part of the window channel's pass is not the page reader,
--- and has taken no windows. A channel's pass is the right to use the channel, and has a meaning only in proofs.
+-- Only the page reader has sent windows. A thread that has no part of the window channel's pass (the ghost right to use
+-- the channel) is not the page reader, and has taken no windows.
 abbrev pub KeepsRole : List WindowView → Type 0
 KeepsRole views =
     (port : ℕ) (v : WindowView) → get_elem? views port ≡ some v
@@ -39,7 +39,8 @@ module _ {S : Type 0} where
       ≡ once_below x (total (λ (v : WindowView). v.count) views))
       × KeepsRole views
 
-  -- What a thread with the complete pass of the window channel knows: the taken and the queued windows have exactly the
-  -- numbers below the count of sent windows, each once.
+  -- What a thread knows if the thread has the complete pass (the ghost right to use a channel) of the channel of
+  -- windows. If n windows were sent, the windows that were taken or are still in the channel have exactly the numbers
+  -- below n, each once.
   abbrev pub Covers : WindowView → List (WindowMessage S) → Type 0
   Covers v items = (x : ℕ) → times x v.taken + times x (numbers items) ≡ once_below x v.count

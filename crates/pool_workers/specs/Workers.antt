@@ -40,8 +40,9 @@ HasCounted x f =
     × ((view f.windows).taken ≡ names (view f.parcels).sent ++ x.0 ∷ [])
 
 -- What a writer knows between two messages. If a writer was not stopped, the writer has counted all received parcels,
--- and the writer's share of the ledger is the number of these parcels' documents. The count and the share do not
--- include parcels in progress.
+-- and the writer's share of the ledger is the number of these parcels' documents. The writer's count of parcels and the
+-- writer's share of the ledger do not include the parcels `in_hand`, which the writer has received and has not settled
+-- yet.
 abbrev pub WriterKnows : {S L : Type 0} → List (ℕ × ℕ) → Writer S L → Type 0
 WriterKnows in_hand w =
     (view w.parcels ≡ parcel_view 1 [] (view w.parcels).got)

@@ -26,8 +26,8 @@ impl<S: SourceBrand> Channels<S> {
     ghost use Rattle.pool_workers.specs.Parcels.{parcel_view};
     ghost use Rattle.pool_workers.specs.Windows.{window_view};
 
-    /// Creates both channels with the given capacity, and a pass for each channel. A pass is the ghost right to use a
-    /// channel. The call fails only if an allocation fails.
+    /// Creates both channels with the given capacity, and a pass (the ghost right to use a channel) for each channel.
+    /// The call fails only if an allocation fails.
     pub fn open(
         alloc: Global,
         capacity: usize,

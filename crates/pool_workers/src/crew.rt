@@ -37,7 +37,8 @@ impl<'a, S: SourceBrand, G: Gate> Promise<Fetcher<S>> for FetcherPromise<'a, S, 
         × IfSome r.stopped (Allows (G.may_stop p.gate.now)) };
 }
 
-/// The guarantee of a writer whose thread has ended. If there is a board, the writer was started with the seat `seat`.
+/// What is guaranteed about a writer after the writer's thread has ended. If the run has a progress board, the writer
+/// was started with the seat `seat`, an access token to the progress board.
 #[derive(Drop)]
 pub struct WriterPromise<'a, S: SourceBrand, G: Gate> {
     pub channels: &'a Channels<S>,
@@ -98,7 +99,9 @@ impl<
     }
 
     /// Starts a writer. The argument `others` is the number of writers that already run. If a thread cannot be created,
-    /// the call sends an end message to each writer, receives one end message, and returns the seat in the error.
+    /// the call sends an end message for each running writer and for the new writer. The call then runs the new writer
+    /// on this thread until the new writer receives an end message. The call then returns an error that has the new
+    /// writer's seat (an access token to the progress board), if the run has a progress board.
     pub fn start_writer<'s, E>(
         &'e self,
         scope: &Scope<'s, E>,

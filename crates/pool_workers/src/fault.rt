@@ -20,7 +20,7 @@ pub enum Halt {
     Refused(TargetFault),
     /// A count of documents or parcels would exceed its maximum.
     CountFull,
-    /// The worker's counter on the board would exceed its maximum.
+    /// The worker's read counter on the progress board would exceed its maximum.
     BoardFull,
     /// An allocation failed.
     Memory,

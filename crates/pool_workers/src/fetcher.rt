@@ -21,9 +21,8 @@ use std::alloc::AllocError;
 use std::sync::Wait;
 use std::sync::ledger::Ledger;
 
-/// A fetcher of the pool. A fetcher has one pass (the right to use a channel) for the channel of windows, and one for
-/// the channel of parcels. A fetcher counts the parcels that it sent, and the documents that it fetched. A fetcher also
-/// has the reason why the fetcher stopped.
+/// A fetcher of the pool. A fetcher has a pass (the ghost right to use a channel) for each of the two channels. A
+/// fetcher also has its counts of sent parcels and fetched documents, and the reason why the fetcher stopped.
 #[derive(Drop)]
 pub struct Fetcher<S: SourceBrand> {
     pub windows: WindowPass<S>,

@@ -61,7 +61,7 @@ fn count_up(
 }
 
 impl FetchedAll {
-    /// Creates the results of a group that has no fetchers yet.
+    /// Creates a `FetchedAll` to which no fetcher's results have been added yet.
     pub fn new(counts: Vec<u64>) -> FetchedAll
         ensures { result ≡ record { counts = counts; sent = 0; stopped = None } }
     {
@@ -120,7 +120,7 @@ impl FetchedAll {
 }
 
 impl WrittenAll {
-    /// Creates the results of a group that has no writers yet.
+    /// Creates a `WrittenAll` to which no writer's results have been added yet.
     pub fn new() -> WrittenAll
         ensures { result ≡ record { got = 0; stopped = None } }
     {
@@ -221,8 +221,8 @@ impl<F: WriteFilter, S: SourceBrand, T: TargetBrand<F>, L: Ledger, G: Gate, R: T
         fetched
     }
 
-    /// Joins the writers' threads and collects their results. The call joins the threads in reverse order, so that the
-    /// seats of the board are returned in order.
+    /// Joins the writers' threads and collects their results. The call joins the threads in reverse order, and thereby
+    /// returns the writers' seats (access tokens to the progress board) in their original order.
     pub fn join_writers(
         &self,
         handles: Vec<WriterHandle<'_, S, L, G>>,

@@ -1,7 +1,7 @@
-//! Pairs are threads that each alternate between the work of a fetcher and of a writer.
+//! A pair is a fetcher and a writer that run alternately on one thread.
 //!
-//! If the gate never blocks a worker, each thread both fetches windows and settles parcels. A run with pairs therefore
-//! needs only half as many threads as the run has fetchers and writers.
+//! If the gate never blocks a worker, each thread runs one fetcher and one writer. A run therefore needs only one
+//! thread for each fetcher, instead of one thread for each fetcher and one thread for each writer.
 ghost use Rattle.std.specs.Prelude.{◌≡◌, ℕ, ◌+◌, ◌-◌, ◌<◌, ◌≤◌, ◌++◌, [], true, length, None, IfSome, IfOk, IfErr, vec_len, vec_capacity, option_copied, option_to_list};
 ghost use Rattle.std.specs.List.{All};
 ghost use Rattle.crossbeam_channel.specs.Claims.{view, IsSeatAt};
@@ -33,8 +33,8 @@ use std::sync::Wait;
 use std::sync::ledger::{Ledger, Share};
 use std::thread::{Promise, PromisedHandle, Scope, Threads};
 
-/// The guarantee of a pair whose thread has ended. If there is a board, the pair's writer was started with the seat
-/// `seat`.
+/// What is guaranteed about a pair (a fetcher and a writer on one thread) after the pair's thread has ended. If the run
+/// has a progress board, the pair's writer was started with the seat `seat`, an access token to the progress board.
 #[derive(Drop)]
 pub struct PairPromise<'a, S: SourceBrand, G: Gate> {
     pub channels: &'a Channels<S>,
@@ -48,7 +48,7 @@ impl<'a, S: SourceBrand, L: Ledger, G: Gate> Promise<Pair<S, L>> for PairPromise
         × WriterShows (option_copied p.board) p.seat.value r.writer };
 }
 
-/// A started pair.
+/// The handle of the thread of a started pair (a fetcher and a writer on one thread).
 pub type PairHandle<'e, S, L, G> = PromisedHandle<Pair<S, L>, PairPromise<'e, S, G>>;
 
 impl<
@@ -60,9 +60,11 @@ impl<
     G: Gate + Sync,
     R: Wait + Sync,
 > Context<'e, F, S, T, L, G, R> {
-    /// Starts a pair. The argument `others` is the number of pairs (threads that work as fetcher and writer) that the
-    /// run has already started. If a thread cannot be created, the call sends an end message to each pair, receives one
-    /// end message, and returns the seat in the error.
+    /// Starts a pair (a fetcher and a writer on one thread). The argument `others` is the number of pairs that already
+    /// run. If a thread cannot be created, the call sends an end message for each running pair and for the new pair.
+    /// The call then runs the new pair (a fetcher and a writer) on this thread until the fetcher receives an end
+    /// message. The call then returns an error that has the writer's seat (an access token to the progress board), if
+    /// the run has a progress board.
     fn start_pair<'s, E>(
         &'e self,
         scope: &Scope<'s, E>,
@@ -114,10 +116,11 @@ impl<
         }
     }
 
-    /// For a new pair, splits off one pass of the channel of windows, two passes of the channel of parcels, and a part
-    /// of the ledger. The call then takes the last seat, and starts the pair (`start_pair`). `others` is the number of
-    /// pairs that were started before. If a thread cannot be created, the call returns `None`, and the seat stays in
-    /// the list of seats.
+    /// Creates and starts a pair (a fetcher and a writer on one thread). The new pair gets three passes (ghost rights
+    /// to use a channel): one for the channel of windows, and two for the channel of parcels. The new pair also gets a
+    /// part of the ledger (a ghost count of settled documents). If the run has a progress board, the new pair gets the
+    /// last seat in `seats` (an access token to the progress board). The argument `others` is the number of pairs that
+    /// already run. If a thread cannot be created, the call returns `None`, and the seat stays in `seats`.
     fn spawn_pair<'s, E>(
         &'e self,
         scope: &Scope<'s, E>,
@@ -168,9 +171,11 @@ impl<
         }
     }
 
-    /// Starts the pairs. If there is a board, each pair gets a seat, and the first pair gets the last seat. If a thread
-    /// cannot be created or an allocation fails, the call starts fewer pairs (threads that work as fetcher and writer)
-    /// than requested. The call then sends end messages of the channel of windows to the started pairs.
+    /// Starts `workers` pairs (a pair is a fetcher and a writer on one thread). If the run has a progress board, each
+    /// pair gets a seat (an access token to the progress board), and the first pair gets the last seat in `seats`. If a
+    /// thread cannot be created or an allocation fails, the call starts fewer than `workers` pairs. If the call starts
+    /// fewer than `workers` pairs of a fetcher and a writer, it sends an end message on the channel of windows to each
+    /// started pair.
     fn start_pairs<'s, E>(
         &'e self,
         scope: &Scope<'s, E>,
@@ -234,8 +239,8 @@ impl<
     G: Gate + Sync,
     R: Threads + Wait + Sync,
 > Context<'e, F, S, T, L, G, R> {
-    /// Joins the pairs (threads that work as fetcher and writer) and collects the results of these threads. The call
-    /// joins the threads in reverse order, so that the seats of the board are returned in order.
+    /// Joins the pairs' threads and collects their results. The call joins the threads in reverse order, and thereby
+    /// returns the writers' seats (access tokens to the progress board) in their original order.
     fn join_pairs(
         &self,
         handles: Vec<PairHandle<'_, S, L, G>>,
@@ -292,10 +297,9 @@ impl<
         (fetched, written)
     }
 
-    /// Runs the pairs (threads that work as fetcher and writer) while the caller's thread reads the windows. Returns
-    /// the results of the run, and the pairs' seats (rows of counters) on the progress board. If a thread cannot be
-    /// created or an allocation fails before all fetchers and writers are started, returns `None` instead of the
-    /// results, and reads no window.
+    /// Runs the pairs (each a fetcher and a writer on one thread) while the caller's thread reads the windows. The
+    /// second result is the list of the progress board's seats (access tokens). If a thread cannot be created or an
+    /// allocation fails before all pairs are started, the call reads no window, and the first result is `None`.
     pub fn pairs_in_scope<'s, E>(
         &'e self,
         scope: &Scope<'s, E>,

@@ -1,5 +1,5 @@
-//! The channel of parcels: its messages, what proofs know about each thread's use of the channel, and the rule that
-//! sent, received and queued parcels satisfy.
+//! Defines the channel of parcels: the channel's messages, what each thread knows about the channel, and the rule that
+//! the channel always satisfies.
 use crate::brands::SourceBrand;
 use crate::messages::Found;
 use crossbeam_channel::protocol::{Join, Lesson, Outcome, Protocol, Split};
@@ -16,10 +16,10 @@ pub enum ParcelMessage<S: SourceBrand> {
     End,
 }
 
-/// A thread's facts about the channel of parcels. The right to use a channel (the channel's pass) has 1,024 parts, and
-/// the field `parts` is the number of parts that the thread has. The fields `sent` and `got` list the parcels that the
-/// thread has sent and received, each as a pair of the parcel's number and its number of documents. No `ParcelView`
-/// exists at run time.
+/// What a thread knows about the channel of parcels. The field `parts` says how many of the 1,024 parts of the
+/// channel's pass (the ghost right to use the channel) the thread has. The fields `sent` and `got` list the parcels
+/// that the thread has sent and received, each as a pair of the parcel's number and its number of documents. No
+/// `ParcelView` exists at run time.
 pub struct ParcelView {
     pub parts: u64,
     pub sent: LinkedList<(u64, u64)>,
@@ -39,7 +39,8 @@ impl<S: SourceBrand> Protocol<ParcelMessage<S>, ParcelView> for Conserved {
     ghost first = { parcel_view 1024 [] [] };
 }
 
-/// The split of a pass into two, one of which is for a worker, and the later join of both passes.
+/// The rule by which passes are split and joined. A pass (the ghost right to use a channel) is split into two passes,
+/// one of which is for a worker.
 pub struct ParcelCut;
 
 impl Split<ParcelView> for ParcelCut {
@@ -88,7 +89,8 @@ impl<S: SourceBrand> Lesson<ParcelMessage<S>, ParcelView> for Gets {
     ghost fact = { λ _ _. Unit {0} };
 }
 
-/// The facts about the channel of parcels that follow from the channel's complete pass.
+/// What a thread knows about the channel of parcels if the thread has all 1,024 parts of the channel's pass (the ghost
+/// right to use the channel).
 pub struct Whole;
 
 impl<S: SourceBrand> Lesson<ParcelMessage<S>, ParcelView> for Whole {
@@ -97,7 +99,8 @@ impl<S: SourceBrand> Lesson<ParcelMessage<S>, ParcelView> for Whole {
     ghost fact = { Accounts };
 }
 
-/// A pass of the channel of parcels: the ghost right to use the channel, with a thread's facts about the channel.
+/// A pass of the channel of parcels. A pass is a ghost value: it gives a thread the right to use the channel, and
+/// states what the thread knows about the channel.
 pub type ParcelPass<S> = Pass<ParcelMessage<S>, ParcelView>;
 
 /// The sending end.

@@ -1,11 +1,13 @@
-//! Shows a writer's progress at the writer's seat of the board, if the writer has a seat. Takes no lock.
+//! Shows a writer's progress on the progress board, if the writer has a seat (an access token to the progress board).
+//! Takes no lock.
 ghost use Rattle.std.specs.Prelude.{◌≡◌, ◌+◌, ◌≤◌, ◌++◌, length, IfErr, OnOk, OnErr, vec_len, vec_capacity, option_copied, option_to_list};
 ghost use Rattle.pool_workers.specs.Boards.{MayFill, IsSeated, IsFullFor, HasRead, HasRoom, HasSettled};
 
 use crate::fault::Halt;
 use progress_board::{Board, BoardSeat};
 
-/// Shows documents as read. Returns `BoardFull` if the worker's counter would exceed 9,007,199,254,740,991.
+/// Adds a number of documents to a worker's read counter on the progress board. Returns `BoardFull` if this counter
+/// would exceed 9,007,199,254,740,991.
 pub fn show_read(
     board: Option<&Board>,
     seat: &mut Option<BoardSeat>,
@@ -30,7 +32,8 @@ pub fn show_read(
     }
 }
 
-/// Shows documents as settled. After the call, the seat must not show more settled documents than read documents.
+/// Adds a number of documents to a worker's settled counter on the progress board. After the call, the settled counter
+/// must not exceed the worker's read counter.
 pub fn show_settled(board: Option<&Board>, seat: &mut Option<BoardSeat>, documents: u64)
     requires seat { IsSeated (option_copied board) seat.old }
     requires room { HasRoom (option_copied board) documents seat.old }
@@ -45,7 +48,7 @@ pub fn show_settled(board: Option<&Board>, seat: &mut Option<BoardSeat>, documen
     let _ = board.add_settled(seat, documents);
 }
 
-/// Appends a seat of the board to the list of seats, if the seat exists.
+/// Appends a seat (an access token to the progress board), if there is one, to the list `seats`.
 pub fn give_back(seats: &mut Vec<BoardSeat>, seat: Option<BoardSeat>)
     requires { vec_len seats.old + length (option_to_list seat) ≤ vec_capacity seats.old }
     ensures items { seats.new.items ≡ seats.old.items ++ option_to_list seat }

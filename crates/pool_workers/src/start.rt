@@ -111,9 +111,11 @@ impl<
         started
     }
 
-    /// For a new writer, splits off a pass of the channel of parcels and a part of the ledger, and takes the last seat.
-    /// The call then starts the writer (`start_writer`). `others` is the number of writers that were started before. If
-    /// a thread cannot be created, the call returns `None`, and the seat stays in the list of seats.
+    /// Creates and starts a writer (`start_writer`). The writer gets a pass (the ghost right to use a channel) of the
+    /// channel of parcels, and a part of the ledger (a ghost count of settled documents). If the run has a progress
+    /// board, the writer also gets the last seat in `seats` (an access token to the progress board). The argument
+    /// `others` is the number of writers that already run. If a thread cannot be created, the call returns `None`, and
+    /// the seat stays in `seats`.
     fn spawn_writer<'s, E>(
         &'e self,
         scope: &Scope<'s, E>,
@@ -158,9 +160,10 @@ impl<
         }
     }
 
-    /// Starts the writers. If there is a board, each writer gets a seat, and the first writer gets the last seat. If a
-    /// thread cannot be created or an allocation fails, the call starts fewer writers than requested. The call then
-    /// sends end messages of the channel of parcels to the started writers.
+    /// Starts `workers` writers. If the run has a progress board, each writer gets a seat (an access token to the
+    /// progress board), and the first writer gets the last seat in `seats`. If a thread cannot be created or an
+    /// allocation fails, the call starts fewer than `workers` writers. If the call starts fewer than `workers` writers,
+    /// it sends an end message on the channel of parcels to each started writer.
     pub fn start_writers<'s, E>(
         &'e self,
         scope: &Scope<'s, E>,

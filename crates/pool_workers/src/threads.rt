@@ -25,8 +25,9 @@ use std::sync::ledger::{Ledger, Share};
 use std::thread;
 use std::thread::{Scope, Threads};
 
-/// What the caller's thread owns before the workers start: the complete passes of both channels, the complete share of
-/// the ledger, the board's seats, and space for each fetcher's count.
+/// What the caller's thread owns before the workers start. The thread owns the complete pass (the ghost right to use a
+/// channel) of each channel, and the complete share of the ledger (a ghost count of settled documents). The thread also
+/// owns the seats (access tokens) of the progress board, and a list with capacity for a count from each fetcher.
 #[derive(Drop)]
 pub struct Owned<S: SourceBrand, L: Ledger> {
     pub counts: Vec<u64>,
@@ -36,9 +37,9 @@ pub struct Owned<S: SourceBrand, L: Ledger> {
     pub seats: Vec<BoardSeat>,
 }
 
-/// What the caller's thread owns after all workers have ended: the complete passes of both channels, the complete share
-/// of the ledger, and the workers' results. If the caller's thread stopped before it had read all windows, the field
-/// `read` has the reason why it stopped.
+/// What the caller's thread owns after all workers have ended. The thread owns the complete pass (the ghost right to
+/// use a channel) of each channel, and the complete share of the ledger (a ghost count of settled documents). The
+/// thread also owns the workers' results. If reading the windows ended early, the thread also owns the reason.
 #[derive(Drop)]
 pub struct Ended<S: SourceBrand, L: Ledger> {
     pub windows: WindowPass<S>,
@@ -103,8 +104,9 @@ impl<
         Some((read, fetched))
     }
 
-    /// Runs the workers while the caller's thread reads the windows, and returns the seats of the board. If not all
-    /// workers can be started, the call reads no window and returns `None`.
+    /// Runs the workers while the caller's thread reads the windows. The second result is the list of the progress
+    /// board's seats (access tokens). If not all workers can be started, the call reads no window, and the first result
+    /// is `None`.
     fn in_scope<'s, E>(
         &'e self,
         scope: &Scope<'s, E>,

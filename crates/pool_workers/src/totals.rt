@@ -25,8 +25,9 @@ use repl_target::{Peer, WriteFilter};
 use std::alloc::Global;
 use std::sync::ledger::Ledger;
 
-/// The result of a run: the target, each fetcher's number of documents, the board's seats, a step's error, and whether
-/// all sent parcels were received.
+/// The result of a run: the target, each fetcher's number of documents, the seats (access tokens) of the progress
+/// board, and the error of a failed step. The field `complete` says whether the writers received all parcels that the
+/// fetchers sent.
 #[derive(Drop)]
 pub struct Summed<F: WriteFilter> {
     pub target: Peer<F>,
@@ -128,9 +129,10 @@ fn sum_up<F: WriteFilter, S: SourceBrand, T: TargetBrand<F>, L: Ledger, G: Gate>
     }
 }
 
-/// Gives proofs three facts about a run. The call needs the complete pass (all 1,024 parts) of each channel. At most
-/// one fetcher took each window. If no fetcher halted, at most one writer received each parcel. If the numbers of sent
-/// and received parcels are equal, exactly the sent parcels were received, each with the same number of documents.
+/// Gives proofs three facts about a run. The call needs the complete pass of each channel, that is, all 1,024 parts of
+/// the ghost right to use the channel. At most one fetcher took each window. If no fetcher halted, at most one writer
+/// received each parcel. If the numbers of sent and received parcels are equal, exactly the sent parcels were received,
+/// each with the same number of documents.
 fn each_once<S: SourceBrand, L: Ledger>(channels: &Channels<S>, ended: &mut Ended<S, L>)
     requires window_seat { IsSeatAt (sends_on channels.now.to_fetchers) ended.old.windows }
     requires parcel_seat { IsSeatAt (sends_on channels.now.to_writers) ended.old.parcels }

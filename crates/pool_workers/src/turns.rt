@@ -1,9 +1,9 @@
-//! Runs a fetcher and a writer alternately on one thread. If a run has only one pair (a fetcher and a writer on one
-//! thread), the pair runs on the thread that reads the windows.
+//! Runs a fetcher and a writer alternately on one thread. If a run has only one fetcher and one writer, both run on the
+//! thread that reads the windows.
 //!
 //! One fetcher and one writer on two threads would still settle one document at a time, and would move data between the
-//! processors' caches. No thread is started for a single pair. The caller's thread takes each window through both
-//! channels before it reads the next window.
+//! processors' caches. For a run with one fetcher and one writer, no thread is therefore started. The caller's thread
+//! fetches and settles each window before it reads the next window.
 ghost use Rattle.std.specs.Prelude.{◌≡◌, ℕ, ◌+◌, ◌-◌, ◌<◌, ◌++◌, [], true, Option, None, Some, IfSome, option_copied, option_to_list, vec_capacity};
 ghost use Rattle.crossbeam_channel.specs.Claims.{view, IsSeatAt};
 ghost use Rattle.crossbeam_channel.specs.Ends.{sends_on};
@@ -47,7 +47,8 @@ impl<F: WriteFilter, S: SourceBrand, T: TargetBrand<F>, L: Ledger, G: Gate, R: W
     G,
     R,
 > {
-    /// For a fetcher on this thread, splits a pass off the given pass of each channel.
+    /// Creates a fetcher, which gets a pass (the ghost right to use a channel) for each channel. The call splits these
+    /// passes off the passes `windows` and `parcels`.
     pub fn fetcher_here(
         &self,
         windows: &mut WindowPass<S>,
@@ -74,8 +75,9 @@ impl<F: WriteFilter, S: SourceBrand, T: TargetBrand<F>, L: Ledger, G: Gate, R: W
         Fetcher::new(its_windows, its_parcels)
     }
 
-    /// For a writer on this thread, splits off a pass of the channel of parcels and a part of the ledger, and takes a
-    /// seat if there is a board.
+    /// Creates a writer. The writer gets a pass (the ghost right to use a channel) for the channel of parcels. The
+    /// writer also gets a part of the ledger (a ghost count of settled documents). If the run has a progress board, the
+    /// writer also gets the last seat in `seats` (an access token to the progress board).
     pub fn writer_here(
         &self,
         parcels: &mut ParcelPass<S>,
@@ -145,8 +147,9 @@ impl<F: WriteFilter, S: SourceBrand, T: TargetBrand<F>, L: Ledger, G: Gate, R: W
         pair
     }
 
-    /// Reads windows from a start until the run's goal (a sequence) or the plan's limit is reached. The call stores
-    /// each window at the target, and takes the window through both channels.
+    /// Reads windows from a start until the run's goal (a sequence) or the plan's limit is reached. For each window,
+    /// the call stores the window at the target and sends it to the fetcher. The call then runs the fetcher for this
+    /// window, and runs the writer if the fetcher sent a parcel.
     fn read_in_turn(
         &self,
         start: u64,
@@ -186,7 +189,8 @@ impl<F: WriteFilter, S: SourceBrand, T: TargetBrand<F>, L: Ledger, G: Gate, R: W
         None
     }
 
-    /// Runs a single pair on this thread, and returns the seats of the board.
+    /// Runs one fetcher and one writer on this thread. The second result is the list of the progress board's seats
+    /// (access tokens).
     pub fn in_turn(&self, start: u64, owned: Owned<S, L>) -> (Ended<S, L>, Vec<BoardSeat>)
         requires source { S.source ≡ self.now.source.now.1.db }
         requires plan { S.plan ≡ self.now.plan.now }

@@ -1,4 +1,5 @@
-//! The channel of windows, with its messages, each thread's facts about the channel, and the rule of the channel.
+//! Defines the channel of windows: the channel's messages, what each thread knows about the channel, and the rule that
+//! the channel always satisfies.
 use crate::brands::SourceBrand;
 use crate::messages::Paged;
 use crossbeam_channel::protocol::{Join, Lesson, Outcome, Protocol, Split};
@@ -14,10 +15,10 @@ pub enum WindowMessage<S: SourceBrand> {
     End,
 }
 
-/// What proofs know about a thread's use of the channel of windows. The right to use a channel (the channel's pass) has
-/// 1,024 parts, and the field `parts` is the number of parts that the thread has. The field `reads` is 1 for the page
-/// reader and 0 for other threads, and `count` is the number of windows that the page reader has sent. The field
-/// `taken` has the numbers of the windows that the thread has taken. No `WindowView` exists at run time.
+/// What a thread knows about the channel of windows. The field `parts` says how many of the 1,024 parts of the
+/// channel's pass (the ghost right to use the channel) the thread has. The field `reads` is 1 for the page reader and 0
+/// for other threads, and `count` is the number of windows that the page reader has sent. The field `taken` has the
+/// numbers of the windows that the thread has taken. No `WindowView` exists at run time.
 pub struct WindowView {
     pub parts: u64,
     pub reads: u64,
@@ -38,8 +39,8 @@ impl<S: SourceBrand> Protocol<WindowMessage<S>, WindowView> for InTurn {
     ghost first = { window_view 1024 1 0 [] };
 }
 
-/// The split of a channel's pass (the right to use the channel) into two passes, one of which is for a fetcher, and the
-/// later join of the two passes.
+/// The rule by which passes are split and joined. A pass (the ghost right to use a channel) is split into two passes,
+/// one of which is for a fetcher.
 pub struct WindowCut;
 
 impl Split<WindowView> for WindowCut {
@@ -89,7 +90,7 @@ impl<S: SourceBrand> Lesson<WindowMessage<S>, WindowView> for Takes {
     ghost fact = { λ _ _. Unit {0} };
 }
 
-/// The facts about the channel of windows that are true if one thread has all 1,024 parts of the channel's pass (the
+/// What a thread knows about the channel of windows if the thread has all 1,024 parts of the channel's pass (the ghost
 /// right to use the channel).
 pub struct AllTaken;
 
@@ -99,7 +100,8 @@ impl<S: SourceBrand> Lesson<WindowMessage<S>, WindowView> for AllTaken {
     ghost fact = { Covers };
 }
 
-/// A pass of the channel of windows: the ghost right to use the channel, with a thread's facts about the channel.
+/// A pass of the channel of windows. A pass is a ghost value: it gives a thread the right to use the channel, and
+/// states what the thread knows about the channel.
 pub type WindowPass<S> = Pass<WindowMessage<S>, WindowView>;
 
 /// The sending end.

@@ -24,8 +24,10 @@ use rev_tree::SessionId;
 use std::sync::Wait;
 use std::sync::ledger::{Ledger, Share};
 
-/// A writer of the pool. A writer has its pass of the channel of parcels, its share of the ledger, and, if the run has
-/// a board, its seat. A writer also has the number of parcels that it settled, and the reason why it stopped.
+/// A writer of the pool. A writer has a pass (the ghost right to use a channel) of the channel of parcels, and a share
+/// of the ledger (a ghost count of settled documents). If the run has a progress board, a writer also has a seat (an
+/// access token to the progress board). A writer also has the number of parcels that it settled, and the reason why it
+/// stopped.
 #[derive(Drop)]
 pub struct Writer<S: SourceBrand, L: Ledger> {
     pub parcels: ParcelPass<S>,
@@ -65,7 +67,8 @@ impl<F: WriteFilter, S: SourceBrand, T: TargetBrand<F>, L: Ledger, G: Gate, R: W
     G,
     R,
 > {
-    /// Settles a parcel, and shows the number of settled documents on the board.
+    /// Settles a parcel, and adds the number of settled documents to the writer's settled counter on the progress
+    /// board.
     fn settle_and_show(
         &self,
         share: &mut Share<L>,
@@ -105,8 +108,9 @@ impl<F: WriteFilter, S: SourceBrand, T: TargetBrand<F>, L: Ledger, G: Gate, R: W
     }
 
     /// Settles a parcel and records the low water at the target. The writer stops if the gate stops the writer or a
-    /// call fails. Before the call settles the documents, it adds their number to the writer's counter of read
-    /// documents on the progress board. The call shows the documents as settled before it calls the gate.
+    /// call fails. If the run has a progress board, the call adds the documents to the writer's read count on the board
+    /// before it settles the documents. The call adds the settled documents to the writer's settled count on the board
+    /// before it calls the gate (the function that observes and may stop workers).
     fn settle_and_record(
         &self,
         share: &mut Share<L>,
@@ -174,8 +178,8 @@ impl<F: WriteFilter, S: SourceBrand, T: TargetBrand<F>, L: Ledger, G: Gate, R: W
     }
 
     /// Settles and counts the parcel that the writer received last, or stores the reason why the writer halts. The
-    /// reason is `CountFull` only if the writer's count is full. The reason is `BoardFull` only if the writer's counter
-    /// on the board would exceed its maximum.
+    /// reason is `CountFull` only if the writer's count is full. The reason is `BoardFull` only if the writer's read
+    /// counter on the progress board would exceed its maximum.
     fn write(&self, writer: &mut Writer<S, L>, number: u64, found: Found<S>)
         requires source { S.source ≡ self.now.source.now.1.db }
         requires knows { WriterKnows ((number, length found.docs) ∷ []) writer.old × (writer.old.stopped ≡ None) }

@@ -53,7 +53,8 @@ pub(crate) fn place_of(rt: &impl Abort, wanted: Rev) -> usize {
     PLACES
 }
 
-/// Returns the mask that represents the given revisions in the reference.
+/// Returns the mask that has a bit for each of the given revisions. The module `reference` assigns a bit to each
+/// revision.
 fn mask_of(rt: &impl Abort, revs: &[Rev]) -> u32 {
     let mut mask = 0;
     for one in revs {

@@ -161,8 +161,8 @@ fn merge(
     agree(rt, alloc, tree, plain, given.revs());
 }
 
-/// Merges a random ancestry into both representations of the tree, and compares the revisions of another random
-/// ancestry.
+/// Merges a random ancestry into both representations of the tree. Then asserts that both representations return equal
+/// results for the revisions of another random ancestry.
 fn merge_and_read(
     rt: &impl Abort,
     alloc: Global,

@@ -69,12 +69,14 @@ fn finish_one(rt: &impl Abort, front: &mut Front, lo: u64, is_done: bool) {
     );
 }
 
-/// Whether a front has the expected low water and the expected number of groups for a list of Booleans.
+/// Whether a front has the low water and the number of groups of done windows that follow from `marks`. The Boolean
+/// `marks[i]` states whether the front's window with the index i is done.
 fn is_marked(front: &Front, start: u64, marks: &[bool; WINDOWS]) -> bool {
     front.low_water() == low_water(start, marks) && front.range_count() == range_count(marks)
 }
 
-/// Tries forty times to finish a random window. For each window, the first try succeeds, and later tries fail.
+/// Calls `finish` forty times, each time for a randomly chosen window of a front. The first call that finishes a window
+/// must succeed, and each further call that finishes the same window must fail.
 fn finishes(rt: &impl Abort, front: &mut Front, seed: u64) {
     let mut rng = ChaCha8Rng::seed_from_u64(seed);
     let start = seed % 7;
@@ -108,7 +110,7 @@ fn many(rt: &impl Abort, front: &mut Front, windows: u64) {
     }
 }
 
-/// Finishes the window with a given number in a front.
+/// Finishes the window with the number `number` of a front (a session's windows, in order).
 fn finish(rt: &impl Abort, front: &mut Front, number: u64) {
     let lo = number.saturating_mul(2);
     let hi = lo.saturating_add(2);

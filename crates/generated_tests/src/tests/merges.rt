@@ -20,7 +20,7 @@ fn sig(rt: &impl Abort, place: usize) -> Sig {
     }
 }
 
-/// Returns the revision at an index of the reference.
+/// Returns the revision that the module `reference` represents by the index `place`.
 pub(crate) fn rev(rt: &impl Abort, place: usize) -> Rev {
     let text = [
         b'1' + (place % PLACES / 3) as u8,

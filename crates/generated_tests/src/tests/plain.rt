@@ -1,7 +1,7 @@
 //! The plain form of a revision tree: a list of merged ancestries, a list of contents, and a list of origins.
 //!
-//! The plain form is slow and simple. Each call of the plain form scans the lists without an index, and uses the first
-//! matching entry.
+//! The plain form is slow and simple. To find an entry, each function of this file scans the list of ancestries,
+//! contents or origins without an index, and uses the first matching entry.
 
 use rev_core::{Ancestry, Rev};
 use rev_tree::{Merged, Origin};
@@ -35,7 +35,7 @@ impl PlainTree {
         self.origins.as_slice().len()
     }
 
-    /// Returns the origin of a revision.
+    /// Returns the origin of a revision: the argument `origin` of the merge that added the revision.
     pub(crate) fn origin(&self, rev: Rev) -> Option<Origin> {
         for entry in &self.origins {
             if entry.0 == rev {
@@ -138,8 +138,8 @@ impl PlainTree {
         Ok(missing)
     }
 
-    /// Finds the newest revision of an ancestry that has different parents in the tree and in the ancestry. Returns the
-    /// revision and both parents.
+    /// Finds the newest revision that has one parent in the tree and a different parent in the given ancestry. Returns
+    /// the revision, the revision's parent in the tree, and the revision's parent in the ancestry.
     fn contradiction(&self, revs: &[Rev]) -> Option<(Rev, Rev, Rev)> {
         for pair in revs.windows(2) {
             if let [child, given] = pair {
@@ -153,8 +153,8 @@ impl PlainTree {
         None
     }
 
-    /// Whether the tree has all revisions and parent links of an ancestry, and a content of the ancestry's head. The
-    /// ancestry must not contradict the tree.
+    /// Whether the tree has all revisions and parent links of an ancestry, and a content for the ancestry's newest
+    /// revision. The ancestry must not contradict the tree.
     fn is_same(&self, ancestry: &Ancestry) -> bool {
         let revs = ancestry.revs();
         revs.iter().all(|rev| self.origin(*rev).is_some())

@@ -88,13 +88,13 @@ impl Reference {
         self.contents[place % PLACES]
     }
 
-    /// Returns the origin of a revision.
+    /// Returns the origin of a revision: the argument `origin` of the merge that added the revision.
     pub(crate) fn origin(&self, place: usize) -> Option<u64> {
         self.origins[place % PLACES]
     }
 
-    /// Finds the newest revision of an ancestry that has different parents in the tree and in the ancestry. Returns the
-    /// revision and both parents.
+    /// Finds the newest revision that has one parent in the tree and a different parent in the given ancestry. Returns
+    /// the revision, the revision's parent in the tree, and the revision's parent in the ancestry.
     pub(crate) fn contradiction(&self, revs: &[usize]) -> Option<Answer> {
         for pair in revs.windows(2) {
             if let [child, given] = pair {
@@ -138,7 +138,7 @@ impl Reference {
         }
     }
 
-    /// Whether two references have the same revisions, parents and contents.
+    /// Whether two trees, both given as values of the type `Reference`, have the same revisions, parents and contents.
     fn is_as(&self, other: &Reference) -> bool {
         self.revisions == other.revisions
             && self.parents == other.parents

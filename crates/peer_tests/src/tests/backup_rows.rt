@@ -1,6 +1,6 @@
-//! Test rows for backups. In these tests, a source is restored from a backup, which changes the source's life (a
-//! number). Calls then get windows and log entries from other lives of the source. The expected results hold if no
-//! allocation fails.
+//! Rows of calls that test backups. In these tests, a source is restored from a backup, which changes the source's life
+//! (a number). Some calls then pass a window or a log entry to a session or a peer that expects a different life of the
+//! source. The expected results hold if no allocation fails.
 use crate::tests::peers::{Call, Lists, Rep, Rows, expect};
 use rev_tree::SessionId;
 
@@ -128,8 +128,8 @@ fn other_life_refused(rt: HostRuntime) {
         (Call::SourceLog(SOURCE, REP), "3 at 4;1 at 3;"),
         (Call::Audit(SOURCE, TARGET), "clean"),
         (Call::Tree(TARGET, "d4"), "1-a of 1"),
-        // The source accepts the third session's entry, because the life in the session's entry is the source's new
-        // life.
+        // The source accepts the third session's entry, because this entry has the source's current life (the number
+        // that each restore of the source changes).
         (Call::PutEntryOf(SOURCE, REP, TARGET, S3), "put"),
     ];
     static LISTS: Lists = &[COPIED, AHEAD, PUT_BACK, ROWS];

@@ -1,4 +1,4 @@
-//! Test rows for selections of documents, for pages and replications of selected documents, and for the logs of such
+//! Rows of calls that test selections of documents, pages and replications of selected documents, and the logs of such
 //! replications.
 use crate::tests::choices::{Call, Rows, expect};
 use rev_tree::SessionId;

@@ -1,4 +1,5 @@
-//! Test rows for databases: pages, puts, edits, requests and fetches. The expected results hold if no allocation fails.
+//! Rows of calls that test databases: pages, puts, edits, requests and fetches. The expected results hold if no
+//! allocation fails.
 use crate::tests::databases::{Bench, Call, Rows, expect};
 
 /// The index of the first database of a bench, from which documents are fetched.
@@ -372,7 +373,8 @@ fn copies_of_a_database(rt: HostRuntime) {
         (Call::Life(OTHER), "9"),
         (Call::Tree(A, "a"), "1-a of 1"),
         (Call::Tree(SAME, "a"), "1-a of 1"),
-        // A copy of a copy has the life of the first copy if no life is given.
+        // If the call `Copy` gives no life (the number that changes when a database is restored), the new copy has the
+        // life of the copied database, here `OTHER`.
         (Call::Copy(OTHER, None), "made"),
         (Call::Life(LATEST), "9"),
         (Call::Numbers(LATEST), "7 at 6"),

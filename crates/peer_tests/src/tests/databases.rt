@@ -26,9 +26,9 @@ pub(crate) enum Call<'a> {
     Copy(usize, Option<u64>),
     /// Read the UUID and the update sequence.
     Numbers(usize),
-    /// Read the life.
+    /// Read the life of a database, a number that changes when the database is restored.
     Life(usize),
-    /// Read the life (of the source database) that a window has.
+    /// Read the life of a window: the number that was the source database's life when the window was read.
     WindowLife(usize),
     /// Read the tree of a document.
     Tree(usize, &'a str),

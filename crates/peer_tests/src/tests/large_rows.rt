@@ -1,4 +1,4 @@
-//! Test rows with large values. No call fails, because enough memory is available.
+//! Rows of test calls with large values. No call fails, because enough memory is available.
 use crate::tests::peers::{Call, Lists, Rows, expect};
 use rev_tree::SessionId;
 

@@ -1,5 +1,5 @@
-//! Test rows for networks. The tests spread documents through a hub, break a chain of hops, refuse a document, load an
-//! incomplete history, and cause each error.
+//! Rows of calls that test networks. The tests spread documents through a hub, break a chain of hops, refuse a
+//! document, load an incomplete history, and cause each error.
 use crate::tests::nets::{Call, Lists, Rows, expect, of_slice};
 
 /// Four peers.
@@ -10,8 +10,8 @@ const FOUR: Rows = &[
     (Call::Add(4, None), "3"),
 ];
 
-/// The revisions that edits with the body {"v":1} create. `FIRST` is the first revision of a document, and `SECOND` is
-/// a child of 1-a.
+/// The revisions that edits with the body {"v":1} create. An edit without a parent revision creates the revision
+/// `FIRST`, and an edit whose parent is the revision 1-a creates the revision `SECOND`.
 const FIRST: &str = "1-125e243b9a90308f8be767a220f77ae9";
 
 const SECOND: &str = "2-04e04b58ba493e5eb3fd86e7cf77b40e";

@@ -1,5 +1,5 @@
-//! Test rows for peers, with local writes, sessions, each error, logs and audits. The expected results hold if no
-//! allocation fails.
+//! Rows of calls that test peers. The calls write documents locally, replicate documents in sessions, cause each error,
+//! read and write logs, and audit peers. The expected results hold if no allocation fails.
 use crate::tests::peers::{Beginning, Call, Lists, Rep, Rows, expect};
 use rev_tree::SessionId;
 

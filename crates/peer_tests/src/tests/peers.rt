@@ -60,7 +60,7 @@ pub(crate) enum Call<'a> {
     Edit(usize, &'a str, &'a str, bool, &'a str),
     /// Read the UUID and the update sequence.
     Numbers(usize),
-    /// Read the life of the database.
+    /// Read the life of the peer's database, a number that rises when the peer is restored.
     Life(usize),
     /// Read the tree of a document.
     Tree(usize, &'a str),
@@ -68,7 +68,8 @@ pub(crate) enum Call<'a> {
     Node(usize, &'a str, &'a str),
     /// Read the filter's verdict on a document.
     Verdict(usize, &'a str),
-    /// Read whether a revision of a document is covered.
+    /// Read whether a peer covers a revision of a document: the revision is in the peer's tree, or in the ancestry of a
+    /// document in a session's ledger.
     Covered(usize, &'a str, &'a str),
     /// Read a page of at most 500 rows, above a sequence and up to a goal, and store the page as the next window.
     Page(usize, u64, u64),
@@ -90,9 +91,9 @@ pub(crate) enum Call<'a> {
     Entry(usize, SessionId),
     /// Read the windows of a session, and whether each window still has its complete rows.
     Windows(usize, SessionId),
-    /// Read the log that a peer has of a replication into this peer.
+    /// Read a peer's log of a replication whose target is this peer.
     TargetLog(usize, Rep),
-    /// Read the log that a peer has of a replication from this peer.
+    /// Read a peer's log of a replication whose source is this peer.
     SourceLog(usize, Rep),
     /// Create an entry with a given session and recorded sequence, and store the entry in a source's log of a
     /// replication.
@@ -476,7 +477,7 @@ pub(crate) fn agreed(
     common_text(alloc, &outgoing, &incoming)
 }
 
-/// Reads a peer's log of the replication `rep`, of which this peer is the target.
+/// Reads a peer's log of a replication whose target is this peer.
 pub(crate) fn target_log(alloc: Global, peer: &Peer<Rules>, rep: &RepId) -> Option<String> {
     let Ok(log) = peer.target_log(alloc, rep) else {
         return None;
@@ -484,7 +485,7 @@ pub(crate) fn target_log(alloc: Global, peer: &Peer<Rules>, rep: &RepId) -> Opti
     log_text(alloc, &log)
 }
 
-/// Reads the log that a peer has of a replication from this peer.
+/// Reads a peer's log of a replication whose source is this peer.
 pub(crate) fn source_log(alloc: Global, peer: &Peer<Rules>, rep: &RepId) -> Option<String> {
     let Ok(log) = peer.source_log(alloc, rep) else {
         return None;

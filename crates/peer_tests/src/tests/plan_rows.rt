@@ -1,16 +1,18 @@
-//! Test rows for plans. The tests cause errors, begin a session, store the session's entry at the source, and search
-//! for uncovered leaves.
+//! Rows of calls that test plans. The tests cause errors, begin a session, store the session's entry at the source, and
+//! search for uncovered leaves.
 use crate::tests::peers::{Call, Lists, Rep, Rows, expect};
 use rev_tree::SessionId;
 
-/// The indices in a bench of the source, the target, and a peer that refuses the document d.
+/// The indices of three peers in a bench (a test fixture): the source, the target, and a peer that refuses the document
+/// d.
 const SOURCE: usize = 0;
 
 const TARGET: usize = 1;
 
 const REFUSING: usize = 2;
 
-/// The indices of the first and the second window, request or parcel that was read or fetched.
+/// Indices in the bench's lists of windows, requests and parcels. `FIRST` is the index of a list's first item, and
+/// `SECOND` is the index of a list's second item.
 const FIRST: usize = 0;
 
 const SECOND: usize = 1;

@@ -1,4 +1,5 @@
-//! Tests of pool runs that show the progress of the run on a board. Viewers read the board during a run.
+//! Tests of pool runs that show the progress of the run on a progress board. Viewers read the progress board during a
+//! run.
 ghost use Rattle.std.specs.Prelude.{◌≡◌, ◌≤◌, IfSome, IfOk, vec_len};
 ghost use Rattle.std.specs.List.{All};
 ghost use Rattle.progress_board.specs.Seats.{AreNew, CameWith};
@@ -52,7 +53,7 @@ const WELL_TWO: &str =
 const WELL_FORTY: &str =
     "session 1 from 0 to 40 checked 40 found 40 read 40 written 40 failed 0, fetched 40";
 
-/// The seats of four viewers.
+/// The seats (access tokens) with which four viewers read a progress board.
 type Viewers = (BoardSeat, BoardSeat, BoardSeat, BoardSeat);
 
 /// Polls a flag at most `TURNS` times until the flag is true, and returns whether the flag became true.

@@ -1,4 +1,5 @@
-//! Tests of pool runs in which a gate, which the workers call at each stage of a window, stops or blocks a worker.
+//! Tests of pool runs in which a gate (a function that the workers call at each stage of a window) stops or blocks a
+//! worker.
 use crate::tests::peers::Rep;
 use crate::tests::pool_rows::{CARRIED, DOCUMENTS, OPEN_PEERS};
 use crate::tests::pools::{Bench, Call, How, Rows};
@@ -101,8 +102,8 @@ impl Gate for HoldsFetched {
     }
 }
 
-/// A gate that stops a run once, when a worker comes to a given stage of a given window. The stages of a window are
-/// took, asked, fetched, settled and recorded, numbered from 0.
+/// A gate that stops a run once, when a worker comes to a given stage of a given window. The five stages of a window
+/// have the numbers 0 (`Took`), 1 (`Asked`), 2 (`Fetched`), 3 (`Settled`) and 4 (`Recorded`).
 #[derive(Drop)]
 struct StopsOnce {
     kind: u64,
@@ -125,7 +126,8 @@ impl StopsOnce {
     }
 }
 
-/// Returns the number of the stage and the number of the window at which a worker calls the gate (the place).
+/// Returns the two numbers of a place (a point at which a worker calls the gate): the number of the stage, and the
+/// number of the window.
 pub(crate) fn kind_of(place: Place) -> (u64, u64) {
     match place {
         Place::Took(window) => (0, window),
@@ -177,7 +179,7 @@ impl Gate for CountsRecordings {
 }
 
 // This test detects a writer that records only every second window, or that reports a low water other than the recorded
-// low water. No contract excludes a writer with one of these defects.
+// low water. No contract excludes a writer that records only every second window, or that reports a wrong low water.
 #[test]
 fn each_recording_tells_the_low_water(rt: HostRuntime) {
     const ONE_BY_ONE: How = How {

@@ -104,7 +104,7 @@ const LEAVES_X1: &str = r#" x1 1-q live {"v":10}; x1 1-p live {"v":4};"#;
 
 const LEAVES_X2: &str = r#" x2 1-a live {"v":6};"#;
 
-/// Calls that read the result of a run into a target that refuses no document. Each document has the same leaves,
+/// Calls that read both peers after a run whose target refuses no document. Each document has the same leaves,
 /// ancestries and contents at both peers.
 pub(crate) static CARRIED: Rows = &[
     (Call::Audit(A, B), "clean"),
@@ -122,8 +122,8 @@ pub(crate) static CARRIED: Rows = &[
     (Call::Leaves(B, "x2"), LEAVES_X2),
 ];
 
-/// Calls that read the source and the target after the first session into a target that refuses two documents. The
-/// results are the same for every order in which the session's windows become done.
+/// Calls that read both peers after the first session of a replication whose target refuses two documents. The results
+/// are the same for every order in which the session's windows become done.
 pub(crate) static SIFTED: Rows = &[
     (
         Call::Entry(B, S1),

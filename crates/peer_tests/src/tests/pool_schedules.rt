@@ -103,8 +103,8 @@ impl Turns {
     /// A fetcher has a window until the fetcher has passed the place `Fetched`. A writer has a parcel until the writer
     /// has passed the place `Recorded`. A fetcher that finds no further window sends an end message to a writer,
     /// perhaps before the other fetcher sends the last parcel. If all three windows are fetched and one window is
-    /// recorded, one writer may have ended. The other writer then handles both remaining windows. A worker that the
-    /// gate stops drops all messages.
+    /// recorded, one writer may have ended. The other writer then handles both remaining windows. If the gate (a
+    /// function that the workers call) stops a worker, this worker drops all further messages.
     fn awaited(&self) -> (u64, u64) {
         let fetched = bits(self.left & FETCHED);
         let recorded = bits(self.left & RECORDED);
@@ -120,10 +120,10 @@ impl Turns {
         (may, may)
     }
 
-    /// Chooses one of the blocked workers at random, and returns whether a worker was chosen. Before the first nap, the
-    /// function chooses a worker only if all workers that may call the gate are blocked. As long as blocked workers
-    /// have slept fewer than `SURE_NAPS` times, the function chooses a worker only if all workers that will certainly
-    /// call the gate are blocked.
+    /// Chooses one of the blocked workers at random, and returns whether a worker was chosen. The counter `naps` counts
+    /// how often blocked workers slept since a worker was last blocked or released. If the counter `naps` is 0, the
+    /// function chooses a worker only if all workers that may call the gate are blocked. If the counter `naps` is below
+    /// `SURE_NAPS`, the function chooses a worker only if all workers that will certainly call the gate are blocked.
     fn choose(&mut self) -> bool {
         let held = bits(self.held);
         if held == 0 {
@@ -237,8 +237,8 @@ impl Drawn {
         self.ran_out.store(true, Ordering::SeqCst);
     }
 
-    /// Returns the order in which workers left the places, and whether the gate released a worker early or a blocked
-    /// worker gave up.
+    /// Returns the order in which the gate chose the workers to run. Also returns whether the gate chose a worker
+    /// before each expected worker was blocked, or a blocked worker stopped waiting.
     fn end(self) -> (u64, bool) {
         let turns = self.turns.into_inner();
         (turns.order, turns.ran_out || self.ran_out.into_inner())

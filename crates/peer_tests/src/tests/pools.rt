@@ -51,9 +51,9 @@ pub(crate) enum Call<'a> {
     Leaves(usize, &'a str),
     /// Read the refused leaves of a document from a session's ledger, with the reasons.
     Refused(usize, SessionId, &'a str),
-    /// Read the log that a peer has of a replication from this peer.
+    /// Read a peer's log of a replication whose source is this peer.
     SourceLog(usize, Rep),
-    /// Read the log that a peer has of a replication into this peer.
+    /// Read a peer's log of a replication whose target is this peer.
     TargetLog(usize, Rep),
     /// Compare the source's and the target's log of a replication.
     Common(usize, usize, Rep),
@@ -275,7 +275,7 @@ fn ran<G: Gate + Sync, R: Threads + Wait + Sync>(
     run(rt, alloc, source, target, plan, gate)
 }
 
-/// Runs the pool on a board.
+/// Runs the pool, and shows the progress of the run on a progress board.
 fn ran_on<G: Gate + Sync, R: Threads + Wait + Sync>(
     rt: &R,
     alloc: Global,

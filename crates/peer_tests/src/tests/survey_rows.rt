@@ -1,4 +1,4 @@
-//! Test rows for the calls of `repl_inspect`. The calls compare leaves, and read conflicts, ledgers and counts. One
+//! Rows of calls that test `repl_inspect`. The calls compare leaves, and read conflicts, ledgers and counts. One
 //! document has 1,000 leaves.
 use crate::tests::surveys::{Call, Rows, expect};
 

@@ -249,7 +249,8 @@ fn ledger(alloc: Global, rows: &[Refused]) -> Option<String> {
     all
 }
 
-/// Creates a bench without documents. The target refuses documents whose ids begin with x.
+/// Creates a bench (a test fixture) with a source and a target that have no documents. The target refuses documents
+/// whose ids begin with x.
 fn two_peers(rt: &impl Abort, alloc: Global) -> Bench {
     let deny = "x".to_string(alloc).expect(rt, "memory");
     Bench {

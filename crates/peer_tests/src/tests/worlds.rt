@@ -57,7 +57,7 @@ pub(crate) enum Question<'a> {
     Tree(u128, &'a str),
     /// The numbers of windows, requests, parcels, entries and logs in the message bag (the messages in transit).
     Sizes,
-    /// The life of the source's database.
+    /// The life of the source's database, a number that rises when the source is restored.
     Life,
     /// The result of an audit.
     Audit,
@@ -74,7 +74,7 @@ fn at_0() -> Option<Moment> {
     Moment::new(0).ok()
 }
 
-/// Returns the step of a world that an act describes.
+/// Converts an act (a step of a world in which documents are given as strings) to a `Step`.
 fn step(alloc: Global, act: Act) -> Option<Step> {
     match act {
         Act::EditSource(id, parent, text) => edit_source(alloc, id, parent, text),
@@ -85,7 +85,7 @@ fn step(alloc: Global, act: Act) -> Option<Step> {
     }
 }
 
-/// Returns the edit of a document at the source.
+/// Creates a `Step` that edits a document at the source.
 fn edit_source(alloc: Global, id: &str, parent: &str, text: &str) -> Option<Step> {
     let Some(body) = body(alloc, text) else {
         return None;
@@ -101,7 +101,7 @@ fn edit_source(alloc: Global, id: &str, parent: &str, text: &str) -> Option<Step
     })
 }
 
-/// Returns the edit of a document at the target.
+/// Creates a `Step` that edits a document at the target.
 fn edit_target(alloc: Global, id: &str, parent: &str, text: &str) -> Option<Step> {
     let Some(body) = body(alloc, text) else {
         return None;
@@ -117,7 +117,7 @@ fn edit_target(alloc: Global, id: &str, parent: &str, text: &str) -> Option<Step
     })
 }
 
-/// Returns the step that an act without a document describes.
+/// Converts an act that has no document (an act is a step of a world with documents as strings) to a `Step`.
 fn plain_step(act: Act) -> Option<Step> {
     let Some(at) = at_0() else {
         return None;
@@ -144,7 +144,7 @@ fn plain_step(act: Act) -> Option<Step> {
     }
 }
 
-/// Returns the steps that a list of acts describes.
+/// Converts each act of a list to a `Step`.
 fn steps(alloc: Global, acts: &[Act]) -> Option<Vec<Step>> {
     let mut all = Vec::new(alloc);
     for act in acts {
@@ -163,7 +163,7 @@ fn push_step(all: &mut Vec<Step>, step: Option<Step>) -> Option<()> {
     }
 }
 
-/// Performs the steps that a list of acts describes.
+/// Converts each act of a list to a `Step`, and performs these steps in a world.
 fn take(alloc: Global, world: &mut World<Rules>, acts: &[Act]) -> Option<()> {
     let Some(steps) = steps(alloc, acts) else {
         return None;
@@ -204,7 +204,7 @@ fn sizes_text(alloc: Global, sizes: (usize, usize, usize, usize, usize)) -> Opti
     format!(in alloc; "{windows} {asked} {parcels} {entries} {logs}").ok()
 }
 
-/// Returns the life of the source's database.
+/// Returns the life of the source's database, a number that rises when the source is restored.
 fn life_text(alloc: Global, world: &World<Rules>) -> Option<String> {
     let life = world.source().db().life();
     format!(in alloc; "{life}").ok()
