@@ -1,4 +1,5 @@
--- Defines the properties of a board's seats that contracts use, as specified in docs/PROFILE.md, "The progress board".
+-- Defines the properties of a progress board's seats (access tokens) that contracts use, as specified in
+-- docs/PROFILE.md, "The progress board".
 use Rattle.std.specs.Prelude.{◌≡◌, ◌+◌, ◌<◌, ◌≤◌, ℕ, Bool, true, not, ◌&&◌, List, Option, Some, None, if◌then◌else◌, length, nat_lt, nat_le, replicate, slice_index, slice_index_or, sum}
 use Rattle.atomic_table.specs.Seated.{TableId}
 use Rattle.progress_board.specs.declared.rule.SeatView.{SeatView}
@@ -8,7 +9,7 @@ use Rattle.progress_board.specs.declared.fault.BoardFault.{BoardFault}
 use Rattle.progress_board.specs.declared.fault.BoardFault.TheVariants as faults
 use Rattle.progress_board.specs.Rule.{most}
 
--- The seat s belongs to the board b.
+-- The seat s (an access token) belongs to the progress board b.
 abbrev pub CameWith : Board → BoardSeat → Type 0
 CameWith b s = (s.place.table_id ≡ b.table.shared.table_id) × (length s.place.me.0.reads ≡ b.workers)
 
@@ -20,13 +21,15 @@ seen_read s = sum s.place.me.0.reads
 abbrev pub seen_settled : BoardSeat → ℕ
 seen_settled s = sum s.place.me.0.settles
 
--- Each counter's lower bound in a seat's view v is at most the bound in the later view w.
+-- A view has the lower bounds of counters that a seat (an access token for a progress board) knows. For each counter,
+-- the lower bound in the view v is at most the lower bound in the view w.
 abbrev pub IsLater : SeatView → SeatView → Type 0
 IsLater v w =
     ((j : ℕ) → slice_index v.reads j ≤ slice_index w.reads j)
     × ((j : ℕ) → slice_index v.settles j ≤ slice_index w.settles j)
 
--- The seats s and t have the same worker, and the same values of this worker's counters.
+-- The seats s and t (access tokens for a progress board) have the same worker, and the same values of this worker's
+-- counters.
 abbrev pub SameSeat : BoardSeat → BoardSeat → Type 0
 SameSeat s t = (t.works ≡ s.works) × (t.number ≡ s.number) × (t.read ≡ s.read) × (t.settled ≡ s.settled)
 
@@ -52,8 +55,8 @@ settled_refusal s n =
 abbrev pub are_seats : ℕ → ℕ → Bool
 are_seats workers viewers = nat_le 1 workers && nat_le workers 64 && nat_le 1 viewers && nat_le viewers 64
 
--- The error that a failed creation of a board returns: `Memory` if the numbers of workers and viewers are valid, else
--- `BadSeats`.
+-- The error of a call that fails to create a progress board. The error is `Memory` if the numbers of workers and
+-- viewers are valid, and `BadSeats` if one of these numbers is not valid.
 abbrev pub new_fault : ℕ → ℕ → BoardFault
 new_fault workers viewers = if are_seats workers viewers then faults.Memory else faults.BadSeats
 

@@ -1,4 +1,4 @@
-//! Creates a board and the seats of its workers and viewers.
+//! Creates a progress board, and the seats (access tokens) of its workers and viewers.
 ghost use Rattle.std.specs.Prelude.{◌≡◌, ◌+◌, ◌<◌, ◌≤◌, true, [], IfOk, IfErr, length, vec_len, vec_capacity};
 ghost use Rattle.progress_board.specs.Rule.{dealer, AllZero};
 ghost use Rattle.progress_board.specs.Seats.{SeatsAre, are_seats, new_fault, AreNew};
@@ -15,7 +15,8 @@ use std::alloc::{AllocError, Global};
 pub const MOST_WORKERS: u64 = 64;
 
 impl Board {
-    /// Creates a board with all counters at 0, and with a seat for each worker and then a seat for each viewer.
+    /// Creates a board with all counters at 0. Also creates a seat (an access token) for each worker, and then a seat
+    /// for each viewer.
     ///
     /// Returns `BadSeats` if the number of workers or the number of viewers is not from 1 to 64.
     pub fn new(
@@ -40,7 +41,8 @@ impl Board {
     }
 }
 
-/// Creates a table of counters with the value 0, and the dealer (the seat that creates all other seats).
+/// Creates a table of counters with the value 0, and the dealer (the value that creates access tokens, called seats,
+/// for the counters).
 fn lay(alloc: Global, workers: usize) -> Result<(BoardTable, Place), AllocError>
     requires { (0 < workers) × (workers ≤ 64) }
     ensures { IfOk result
@@ -51,7 +53,8 @@ fn lay(alloc: Global, workers: usize) -> Result<(BoardTable, Place), AllocError>
     lay_words(alloc, words.as_slice(), workers)
 }
 
-/// Creates a table of counters with the given values, and the dealer (the seat that creates all other seats).
+/// Creates a table of counters with the given values, and the dealer (the value that creates access tokens, called
+/// seats, for the counters).
 fn lay_words(
     alloc: Global,
     words: &[u64],
@@ -65,7 +68,7 @@ fn lay_words(
     Table::<(), SeatView, u64, BoardRule, Global>::of_words(alloc, words, &(workers as u64))
 }
 
-/// Appends the seats of the board's workers to a list.
+/// Appends the seats (access tokens) of the board's workers to a list.
 fn add_workers(table: &BoardTable, dealing: &mut Place, workers: usize, seats: &mut Vec<BoardSeat>)
     requires board { (table.now.shared.key ≡ workers) × (table.now.shared.table_id.words ≡ workers + workers) }
     requires desk { (dealing.old.table_id ≡ table.now.shared.table_id) × (dealing.old.me ≡ (dealer workers 0, [])) }
@@ -81,7 +84,7 @@ fn add_workers(table: &BoardTable, dealing: &mut Place, workers: usize, seats: &
     }
 }
 
-/// Appends the seats of the board's viewers to a list.
+/// Appends the seats (access tokens) of the board's viewers to a list.
 fn add_viewers(
     table: &BoardTable,
     dealing: &mut Place,

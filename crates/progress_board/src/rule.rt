@@ -1,5 +1,5 @@
-//! Types for proofs about the progress board: what is known about a seat (access to the board), and the rule that the
-//! board's counters satisfy.
+//! The facts that a seat (an access token for a progress board) has about the board's counters, and the rule that the
+//! counters satisfy.
 //!
 //! No value of the types in this file exists at run time. The types of this file represent what proofs know about the
 //! counters of a board.
@@ -7,7 +7,8 @@
 use atomic_table::{Play, Split, TableRule};
 use std::collections::LinkedList;
 
-/// The facts that a seat has: the kind of the seat, its number, and a lower bound for each counter.
+/// The facts that a seat (an access token for a progress board) has: the kind of the seat, its number, and a lower
+/// bound for each counter.
 pub struct SeatView {
     pub deals: bool,
     pub works: bool,
@@ -48,7 +49,7 @@ impl Play<(), SeatView> for AddsSettled {
     ghost then = { λ st v n w. (w.0 ≡ added_settled v.0 st.first) × (w.1 ≡ v.1) };
 }
 
-/// A seat loads a worker's read counter.
+/// A seat (an access token for a progress board) loads a worker's read counter.
 pub struct LooksAtRead;
 
 impl Play<(), SeatView> for LooksAtRead {
@@ -58,7 +59,7 @@ impl Play<(), SeatView> for LooksAtRead {
     ghost then = { λ st v n w. SeesRead v.0 st.word n w.0 × (w.1 ≡ v.1) };
 }
 
-/// A seat loads a worker's settled counter.
+/// A seat (an access token for a progress board) loads a worker's settled counter.
 pub struct LooksAtSettled;
 
 impl Play<(), SeatView> for LooksAtSettled {
@@ -68,7 +69,7 @@ impl Play<(), SeatView> for LooksAtSettled {
     ghost then = { λ st v n w. SeesSettled v.0 (st.word - length v.0.reads) n w.0 × (w.1 ≡ v.1) };
 }
 
-/// The dealer (the seat that creates all other seats) creates a worker's seat with the worker's number.
+/// The dealer of a progress board creates a worker's seat (an access token for the board) with the worker's number.
 pub struct ToWorker;
 
 impl Split<SeatView> for ToWorker {
@@ -79,7 +80,7 @@ impl Split<SeatView> for ToWorker {
     ghost right = { hired };
 }
 
-/// The dealer (the seat that creates all other seats) creates a viewer's seat.
+/// The dealer of a progress board creates a viewer's seat (an access token for the board).
 pub struct ToViewer;
 
 impl Split<SeatView> for ToViewer {

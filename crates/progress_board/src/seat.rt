@@ -1,10 +1,11 @@
-//! Seats of a board.
+//! Seats (access tokens) of a progress board.
 ghost use Rattle.std.specs.Prelude.{◌≡◌, ◌<◌, ◌≤◌, ℕ, true, [], length, slice_index};
 ghost use Rattle.progress_board.specs.Rule.{most, IsFresh};
 
 use crate::steps::Place;
 
-/// A seat of a board, which belongs to a viewer, or to a worker with a number and two counters.
+/// A seat (an access token for a progress board). A seat belongs to a viewer, or to a worker with a number and two
+/// counters.
 ///
 /// For each counter of the board, a seat knows a lower bound: the greatest value that the seat knows to have been in
 /// the counter. Only the holder of a worker's seat can change that worker's counters.
@@ -27,7 +28,7 @@ pub struct BoardSeat {
     ghost held: { works ≡ true → number < length place.me.0.reads },
 }
 
-/// Creates a seat that has loaded no counter yet.
+/// Creates a seat (an access token for a progress board) that has not yet loaded a counter of the board.
 pub(crate) fn seat_of(place: Place, works: bool, number: usize, workers: usize) -> BoardSeat
     requires empty { place.me.1 ≡ [] }
     requires fresh { IsFresh workers works number place.me.0 }

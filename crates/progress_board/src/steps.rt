@@ -83,7 +83,7 @@ pub(crate) fn add_to_settled(
         .fetch_add::<AddsSettled>(place, workers + number, n);
 }
 
-/// Creates a worker's seat from the dealer (the seat that creates all other seats).
+/// Creates a worker's seat (an access token for a progress board) from the board's dealer (the creator of seats).
 pub(crate) fn hire(table: &BoardTable, dealer: &mut Place, workers: usize) -> Place
     requires board { (table.now.shared.key ≡ workers) × (table.now.shared.table_id.words ≡ workers + workers) }
     requires dealer { (dealer.old.table_id ≡ table.now.shared.table_id) × (dealer.old.me.1 ≡ [])
@@ -94,7 +94,7 @@ pub(crate) fn hire(table: &BoardTable, dealer: &mut Place, workers: usize) -> Pl
     table.shared.split_seat::<ToWorker>(dealer)
 }
 
-/// Creates a viewer's seat from the dealer (the seat that creates all other seats).
+/// Creates a viewer's seat (an access token for a progress board) from the board's dealer (the creator of seats).
 pub(crate) fn admit(table: &BoardTable, dealer: &mut Place, workers: usize) -> Place
     requires board { (table.now.shared.key ≡ workers) × (table.now.shared.table_id.words ≡ workers + workers)
         × (0 < workers) }

@@ -27,7 +27,8 @@ coded_front =
     code_by (ℕ × List FrontWindow) (coded× coded_ℕ (coded_list coded_front_window)) (λ f. (f.start, f.windows))
     (λ p. record { start = p.0; windows = p.1 }) (λ _. refl)
 
--- The value that contracts use for a front: the front, and the number of calls of `finish` for which space is reserved.
+-- The value that a `Front` has in contracts. The field `front` has the start and the windows, and `room` is the number
+-- of calls of `finish` for which space is reserved.
 pub record FrontWithRoom : Type 0 where
   pub front : FrontValue
   pub room : ℕ

@@ -1,5 +1,5 @@
--- Defines the stored form of a front: the ends of the windows, the low water, and the ranges of done windows above the
--- low water.
+-- Defines the stored form of a front (a list of adjacent windows): the ends of the windows, the low water, and the
+-- ranges of done windows above the low water.
 use Rattle.std.specs.Prelude.{◌≡◌, ◌⊎◌, ℕ, ◌<◌, Bool, false, ◌&&◌, ◌||◌, ◌==◌, nat_le, if◌then◌else◌, List, [], ◌∷◌, map}
 use Rattle.range_front.specs.declared.ranges.DoneRange.{DoneRange}
 use Rattle.range_front.specs.Front.{FrontWindow, FrontValue, IsFront}
@@ -45,7 +45,8 @@ absorbed hi [] = (hi, [])
 absorbed hi (r ∷ rs) = if r.lo == hi then (r.hi, rs) else (hi, r ∷ rs)
 
 -- The ranges of done windows after adding the window (lo, hi] at the range r, which is the first range that ends at or
--- above `lo`. If r ends at `lo` or begins at `hi`, the window extends r. Otherwise the window becomes a range before r.
+-- above `lo`. If r ends at `lo` or begins at `hi`, the window extends r. If r neither ends at `lo` nor begins at `hi`,
+-- the window becomes a new range before the range r.
 abbrev pub put_at : DoneRange → List DoneRange → ℕ → ℕ → List DoneRange
 put_at r rs lo hi =
     if r.hi == lo then record { lo = r.lo; hi = (absorbed hi rs).0 } ∷ (absorbed hi rs).1

@@ -88,13 +88,14 @@ impl Front {
         }
     }
 
-    /// Appends the window `(end, hi]`, which is not done.
+    /// Appends the window `(end, hi]` to the front (the list of adjacent windows). The new window is not marked as
+    /// done.
     ///
     /// # Errors
     ///
     /// The call checks for errors in this order, and leaves the front unchanged if it fails:
     ///
-    /// - `NotRising`: the bound `hi` is not above the front's end.
+    /// - `NotRising`: the bound `hi` is not above `end`, the front's end.
     /// - `Memory`: an allocation failed.
     pub fn append(&mut self, hi: u64) -> Result<(), FrontFault>
         ensures answer { GivesUnlessMemory result (append_answer self.old.front hi) }

@@ -32,7 +32,8 @@ info_in d = do
 
 -- ---- its output
 
--- The part of the output of `info` that gives the name, UUID, update sequence and life of a database.
+-- The part of the output of `info` that gives a database's name, UUID, update sequence and life (the number that each
+-- restore of the database raises).
 abbrev pub identity_part : List ℕ → DatabaseValue → List ℕ
 identity_part name db =
     codes "info " ++ name ++ codes " uuid " ++ id_digits db.uuid ++ codes " seq " ++ decimal db.update_seq ++ codes " life " ++ decimal db.life

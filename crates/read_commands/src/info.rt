@@ -83,7 +83,7 @@ fn push_sessions(answer: &mut Vec<u8>, count: usize) -> Result<(), AllocError>
     answer.extend_from_slice(b"\n")
 }
 
-/// Appends the name, UUID, update sequence and life of a database.
+/// Appends a database's name, UUID, update sequence and life (the number that each restore of the database raises).
 fn push_identity(
     alloc: Global,
     answer: &mut Vec<u8>,

@@ -70,8 +70,8 @@ abbrev pub newest_common : List EntryView → List EntryView → Option (Text ×
 newest_common [] source = None
 newest_common (e ∷ target) source = if has_pair source e.session e.seq then Some (e.session, e.seq) else newest_common target source
 
--- The sequence at which a window begins: the sequence of the newest pair in both logs, or 0 if the logs have no common
--- pair.
+-- The sequence at which a window begins, given the session and the sequence of the newest entry that both replication
+-- logs have. The sequence is 0 if the logs have no common entry.
 abbrev pub seq_of : Option (Text × Text) → Text
 seq_of None = codes "0"
 seq_of (Some pair) = pair.1
@@ -79,8 +79,8 @@ seq_of (Some pair) = pair.1
 -- ---- progress of a run
 
 -- The relay has read consecutive pages of changes from the sequence `begin` to the sequence s. After each page, the
--- target had, or refused, each leaf of the page. The number n counts the leaves in these pages that the target refused
--- and does not have.
+-- target had, or refused, each leaf of the page. In the pages from `begin` to s, there are n leaves that the target
+-- refused and was not found to have.
 pub data Reached : Text → List Exchange → Text → ℕ → Type 0 where
   begun : {begin : Text} {h : List Exchange} {s : Text} {n : ℕ} → begin ≡ s → n ≡ 0 → Reached begin h s n
   paged : {begin : Text} {h : List Exchange} {s : Text} {n : ℕ} (before after rest : List Exchange) (since : Text) (wait : Option ℕ) (page : PageView) (m : ℕ) → h ≡ rest ++ (after ++ exchange_of (get_changes since wait) (page_response page) ∷ before) → Reached begin before since m → AreSettled after page.rows → page.last_seq ≡ s → n ≡ m + leaf_count (not_found after page.rows) → Reached begin h s n
@@ -91,8 +91,8 @@ abbrev pub log_of : Side → LogView → LogView → LogView
 log_of Target target source = target
 log_of Source target source = source
 
--- The relay first processed the pages of changes up to sequence s, and then read the logs of both servers. The pages
--- begin at the sequence of the newest pair (session and sequence) that both logs have, or at 0 without such a pair.
+-- First the relay processed the pages of changes from the sequence of the newest common entry of both logs to sequence
+-- s. Then the relay read the logs of both servers.
 pub record AreReady (h : List Exchange) (target source : LogView) (s : Text) (failures : ℕ) : Type 0 where
   pub before : List Exchange
   pub later : List Exchange

@@ -40,8 +40,9 @@ asked_by run (stages.TargetPut target source checkpoint) = put_log Target (log_v
 asked_by run (stages.SourcePut source checkpoint) = put_log Source (log_view source) (checkpoint_view checkpoint)
 asked_by run (stages.Done fault) = done (option_map fault_view fault) run.counts (begin_of run)
 
--- The next request of the relay in a phase: the phase's next notice, or, after the last notice, the request of the
--- phase's stage.
+-- The next request of the relay in a phase (the state of a run between two requests). If a notice of the phase is not
+-- printed yet, the request is to print the next notice. After the phase's last notice, the request is the one that the
+-- phase's stage determines (`asked_by`).
 abbrev pub asked_of : Phase → RequestView
 asked_of phase = option_map_or (λ n. tell (notice_view n)) (slice_get phase.notices.items phase.told) (asked_by phase.run phase.stage)
 
@@ -66,7 +67,7 @@ pub record IsRead (h : List Exchange) (begin since : Text) (failures : ℕ) (tar
   pub reached : IsReachedFrom before begin since failures
 
 -- The source returned a page of changes, and the transfer of the page is in progress. The documents `missing` have
--- those leaves of the page for which no response after the page shows that the target has them. The target refused
+-- exactly those leaves of the page that no response after the page has shown to be at the target. The target refused
 -- each leaf that the error rows `rows` name.
 pub record IsOpen (h : List Exchange) (begin since last : Text) (failures : ℕ) (missing : List DocView) (rows : List RowErrorView) : Type 0 where
   pub before : List Exchange

@@ -41,9 +41,9 @@ pub data FaultView : Type 0 where
   bad_answer : Operation → FaultView
   bad_log : Side → FaultView
   refused : Text → Side → ℕ → Text → FaultView
-  -- The fault of a run whose target lacks leaves that the target has not refused. The fault has the id and revision of
-  -- the first of these leaves, and the number of these leaves. The fault also has the error and reason of the
-  -- document's first error row whose error is neither `forbidden` nor `unauthorized`, if such a row exists.
+  -- The fault of a run whose target lacks leaves that the target has not refused: the id and revision of the first such
+  -- leaf, and the number of such leaves. The fault also has the error and reason of the first error row of the named
+  -- leaf's document whose error is neither `forbidden` nor `unauthorized`, if such a row exists.
   unaccounted : Text → Text → Option (Text × Text) → ℕ → FaultView
   log_changed : FaultView
 

@@ -208,7 +208,8 @@ pub(crate) fn after_target_log(alloc: Global, run: Run, response: Response) -> P
 }
 
 /// Continues a run after both logs were read. The run stores both logs if its window is open and the newest common
-/// entry of both logs has not changed since the window began. Otherwise the run begins a new window (`anew`).
+/// entry of both logs has not changed since the window began. If the run's window is not open, or the newest common
+/// entry has changed, the run begins a new window (`anew`).
 pub(crate) fn after_source_log(
     alloc: Global,
     run: Run,

@@ -160,8 +160,8 @@ pub enum Notice {
     Refused(RefusedLeaf),
     /// The logs have changed, so the run restarts at the newest entry that both logs have.
     Restarted,
-    /// The target has each leaf of a page, or has refused the leaf. The notice has the run's counts so far and the
-    /// number of changed documents after the page.
+    /// The target has each leaf of a page, or has refused the leaf. The notice has the run's counts so far, and the
+    /// number of changed documents that follow the page in the source's feed, if this number is known.
     Progress(Counts, Option<String>),
 }
 

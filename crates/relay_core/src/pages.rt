@@ -133,8 +133,9 @@ fn ask_carry(alloc: Global, run: Run, mut transfer: Transfer) -> Phase
     quiet(alloc, run, Stage::Carry(transfer))
 }
 
-/// Continues a run after one part of a transfer is done. The call raises the maximum number of documents in a later
-/// part to twice the number of documents in this part, but not above `settings.carry`.
+/// Continues a run after one part of a page's documents was transferred to the target. The call raises the maximum
+/// number of documents in a part (`run.carry`) to at least twice the number of documents in the transferred part, but
+/// not above `settings.carry`.
 fn advance(alloc: Global, settings: &Settings, mut run: Run, mut transfer: Transfer) -> Phase
     ensures { (h : List Exchange) → IsOpenAt h run transfer → Knows h result }
 {

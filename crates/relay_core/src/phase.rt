@@ -77,10 +77,11 @@ pub struct Transfer {
     pub carried: usize,
     /// The number of documents in the current part of the transfer.
     pub size: usize,
-    /// The error rows of the transfer so far that refuse a leaf. They are rows of `_bulk_docs` responses, or rows that
-    /// the relay creates for documents that are too large for the target.
+    /// The error rows that refuse a leaf, from all parts of the transfer that are done. Each row in `refused` is a row
+    /// of a `_bulk_docs` response, or was created by the relay for a document that is too large for the target.
     pub refused: Vec<RowError>,
-    /// The error rows that refuse no leaf, from the `_bulk_docs` responses in the transfer so far.
+    /// The error rows that are not in `refused`, from the `_bulk_docs` responses to all parts of the transfer that are
+    /// done.
     pub others: Vec<RowError>,
 }
 
@@ -173,7 +174,7 @@ impl Phase {
     }
 }
 
-/// Returns the phase with the given run and stage, without notices.
+/// Returns a phase (the state of a run between two requests) that has the given run, the given stage and no notices.
 pub(crate) fn quiet(alloc: Global, run: Run, stage: Stage) -> Phase
     ensures run { result.run ≡ run }
     ensures stage { result.stage ≡ stage }

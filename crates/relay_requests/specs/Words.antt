@@ -45,7 +45,8 @@ fault_name (refused id side status words) = codes "refused"
 fault_name (unaccounted id rev error count) = codes "unaccounted"
 fault_name log_changed = codes "log_changed"
 
--- The error of a response row in a fault's message, or the empty text if there is no error.
+-- The part of a fault's message that gives the error and the reason of a response row. The part is empty if the fault
+-- has no error of a row.
 abbrev pub row_error_text : Option (Text × Text) → Text
 row_error_text None = []
 row_error_text (Some e) = codes ", " ++ e.0 ++ codes ": " ++ e.1

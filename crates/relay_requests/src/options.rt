@@ -15,7 +15,7 @@ pub struct RequestOptions {
     pub batch: u64,
     /// The name of a filter for the changes feed.
     pub filter: String,
-    /// Further parameters of the request for changes, percent-encoded by the caller.
+    /// Query parameters that the caller adds to the request for changes, percent-encoded by the caller.
     pub query: String,
     /// The selection of documents, on one line, which is the body of the request for changes.
     pub choice: String,

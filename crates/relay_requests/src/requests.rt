@@ -52,7 +52,8 @@ fn filter_text(alloc: Global, filter: &str) -> Result<String, AllocError>
     format!(in alloc; "&filter={filter}")
 }
 
-/// Returns the part of the path that has the further parameters of the request for changes.
+/// Returns `&` and the query parameters that the caller adds to a `_changes` request, or an empty string if there are
+/// no such parameters.
 fn query_text(alloc: Global, query: &str) -> Result<String, AllocError>
     ensures { IfOk result (λ s. string_bytes s ≡ query_text query.now) }
 {

@@ -16,7 +16,7 @@ pub(crate) fn side_text(side: Side) -> &'static str
     }
 }
 
-/// Returns the name of a kind of request for descriptions of faults.
+/// Returns the name that the message of a fault uses for the given kind of request.
 pub(crate) fn operation_text(operation: Operation) -> &'static str
     ensures { result.now ≡ operation_text operation }
 {

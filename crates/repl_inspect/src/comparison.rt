@@ -61,10 +61,11 @@ impl Comparison {
         self.missing.as_slice()
     }
 
-    /// Searches the missing leaves' ancestries for the first revision whose parents at source and target differ.
-    /// Returns this revision and both parents, if such a revision exists. The missing leaves are searched in order, and
-    /// each leaf's ancestry from its newest revision to its oldest. The target would refuse the missing leaf whose
-    /// ancestry has the returned revision.
+    /// Searches the missing leaves' ancestries for the first revision that has different parents at source and target.
+    /// Returns the first revision with different parents, and both parents, or `None` if the searched ancestries have
+    /// no revision with different parents. The missing leaves are searched in order, and each leaf's ancestry from its
+    /// newest revision to its oldest. The target would refuse the missing leaf whose ancestry has the returned
+    /// revision.
     pub fn contradiction(&self) -> Option<Contradiction>
         ensures { result ≡ self.now.contradiction }
     {
@@ -99,8 +100,9 @@ pub(crate) fn compare_trees(
     })
 }
 
-/// Searches the given leaves' ancestries for the first revision whose parents at source and target differ. Returns this
-/// revision and both parents, if such a revision exists. The given leaves are leaves of the source's document.
+/// Searches the given leaves' ancestries for the first revision that has different parents at source and target.
+/// Returns the first revision with different parents, and both parents, or `None` if the searched ancestries have no
+/// revision with different parents. The given leaves are leaves of the source's document.
 fn first_under(
     alloc: Global,
     source: &Tree,

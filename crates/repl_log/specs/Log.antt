@@ -36,7 +36,7 @@ abbrev pub with_entry : List EntryValue → EntryValue → List EntryValue
 with_entry log e = if holds log e.session then replaced log e else e ∷ log
 
 -- The result of a put of entry e into a log, given the log's stored entry of e's session, or `None` if the log has no
--- such entry. The put fails with `Older` if the stored entry has a greater recorded sequence.
+-- such entry. The put fails with `Older` if the stored entry has a greater recorded sequence than e.
 abbrev pub put_beside : EntryValue → Option EntryValue → Result (Unit {0}) LogFault
 put_beside e None = Ok tt
 put_beside e (Some stored) = if nat_lt e.recorded stored.recorded then Err (faults.Older stored.recorded) else Ok tt

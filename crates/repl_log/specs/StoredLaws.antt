@@ -43,8 +43,9 @@ insert_entry-present s (e ∷ es) x y is =
       | false ↦ λ rest. ap (λ l. e ∷ l) (insert_entry-present s es x y rest)
     ] is
 
--- Theorems about stored values. The parameter `value` maps a stored value to the value in contracts, and `session` maps
--- a value in contracts to the value's session.
+-- Theorems about the values that a table stores by session. The function `value` maps each stored value (of type X) to
+-- the value of type V that represents the stored value in contracts. The function `session` maps a value of type V to
+-- the session to which the value belongs.
 module _ {X V : Type 0} (value : X → V) (session : V → SessionId) where
   abbrev named : SessionId → V → Bool
   named s v = (session v).0 == s.0

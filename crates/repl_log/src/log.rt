@@ -62,7 +62,7 @@ impl Log {
     ///
     /// Checked in this order; an error changes nothing:
     ///
-    /// - `Older`: the stored entry of the session has a greater recorded sequence.
+    /// - `Older`: the log already has an entry of the same session with a greater recorded sequence than `entry`.
     /// - `Memory`: an allocation failed. The call returns `Memory` only for a new session.
     pub fn put(&mut self, entry: Entry) -> Result<(), LogFault>
         ensures answer { GivesUnlessMemory result (put_answer self.old (value_of entry)) }

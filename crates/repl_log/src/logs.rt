@@ -67,13 +67,13 @@ impl Logs {
     }
 
     /// Stores an entry in the log of a replication as `Log::put` does. If the replication has no log, the call creates
-    /// one.
+    /// a log for the replication.
     ///
     /// # Errors
     ///
     /// Checked in this order; an error changes nothing:
     ///
-    /// - `Older`: the log's entry of the session has a greater recorded sequence.
+    /// - `Older`: the log already has an entry of the same session with a greater recorded sequence than `entry`.
     /// - `Memory`: an allocation failed.
     pub fn put(&mut self, rep: &RepId, entry: Entry) -> Result<(), LogFault>
         ensures answer { GivesUnlessMemory result (put_answer_in self.old rep.now (value_of entry)) }

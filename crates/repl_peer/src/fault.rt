@@ -108,7 +108,8 @@ pub enum TargetFault {
     Unfinished {
         low_water: u64,
     },
-    /// The log already has an entry of this session with a greater recorded sequence, `stored`.
+    /// The log already has an entry of this session, and the recorded sequence of that entry, `stored`, is greater than
+    /// the recorded sequence of the new entry.
     #[error("older than the stored entry, which recorded {stored}")]
     Older {
         stored: u64,
@@ -119,7 +120,8 @@ pub enum TargetFault {
     /// The backup is of a database with another UUID.
     #[error("the copy is of another database")]
     ForeignBackup,
-    /// The database cannot get another life, because the number of that life would exceed 9,007,199,254,740,991.
+    /// The database cannot be restored, because its life (a number that each restore raises) would exceed
+    /// 9,007,199,254,740,991.
     #[error("no life is left")]
     LifeFull,
     /// The window size of a plan is 0 or exceeds 10,000.

@@ -15,9 +15,9 @@ use repl_log::{Entry, Log, RepId};
 use rev_tree::SessionId;
 use std::alloc::{AllocError, Global};
 
-/// Returns the id of the replication from one peer into another. The id contains the UUIDs of both databases. The id
-/// and the argument `chosen` share one selection in memory. The contract also states that the source and the target
-/// satisfy the invariant of peers.
+/// Returns the id of the replication from one peer into another. The id contains the UUIDs of both databases. The
+/// returned id does not copy the selection `chosen`: both refer to the same list of ids in memory. The contract also
+/// states that the source and the target satisfy the invariant of peers.
 pub fn rep_between<F: WriteFilter, G: WriteFilter>(
     source: &Peer<F>,
     target: &Peer<G>,

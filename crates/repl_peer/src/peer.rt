@@ -142,7 +142,8 @@ impl<F: WriteFilter> Peer<F> {
         &self.db
     }
 
-    /// Has no effect at run time, but gives proofs the invariants of the peer and of the peer's database.
+    /// Has no effect at run time. The contract of the call states the invariants of the peer and of the peer's
+    /// database, so that proofs can use these invariants.
     pub fn law(&self)
         ensures peer { Lawful (F.refuses self.now.0) self.now.1 }
         ensures database { LawfulDatabase self.now.1.db }
@@ -328,8 +329,9 @@ impl<F: WriteFilter> Peer<F> {
         self.append_prepared(id, ReadyWindow::new(window))
     }
 
-    /// Does the same as `append` for a prepared window. A prepared window may already have its form without leaves, in
-    /// which the session stores the window once the window is done.
+    /// Does the same as `append` for a prepared window. A prepared window may already have a copy of the window whose
+    /// rows have no leaves. Once a prepared window is done, the session stores only the copy whose rows have no leaves,
+    /// unless the allocation for this copy fails.
     pub fn append_prepared(&mut self, id: SessionId, ready: ReadyWindow) -> Result<(), TargetFault>
         ensures answer { GivesUnlessMemory result (append_answer self.old.1 id ready) }
         ensures filter { self.new.0 ≡ self.old.0 }

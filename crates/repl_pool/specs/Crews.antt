@@ -3,7 +3,7 @@ use Rattle.std.specs.Prelude.{ℕ, ◌+◌, ◌-◌, ◌/◌, nat_le, min, if◌
 use Rattle.repl_target.specs.declared.replication.Plan.{Plan}
 
 -- The maximum number of windows that a run from sequence `start` to sequence `goal` can read, if `start` is less than
--- `goal`. A run reads this number of windows if each sequence of the feed has a row.
+-- `goal`. A run reads the maximum number of windows if each sequence of the feed has a row.
 abbrev pub most_windows : Plan → ℕ → ℕ → ℕ
 most_windows plan start goal = (goal - start - 1) / plan.batch + 1
 

@@ -43,8 +43,8 @@ pub struct Ran<F: WriteFilter> {
     pub outcome: Result<Report, PoolFault>,
 }
 
-/// A board on which a run shows its progress, with a seat for each worker of the plan. A worker updates the board
-/// through its seat.
+/// A progress board on which a run shows its progress, with a seat (an access token for the board) for each worker of
+/// the plan. A worker updates the board through its seat.
 #[derive(Drop)]
 pub struct Progress<'a> {
     /// The board.
@@ -294,10 +294,10 @@ fn run_with<F: WriteFilter + Send + Sync, G: Gate + Sync, R: Threads + Wait + Sy
 /// If the run succeeds, the target covers each leaf of the source's selected feed above the session's start. A
 /// successful call returns the report of the session, which began at the common checkpoint and has recorded the
 /// source's update sequence. The numbers of documents that the fetchers counted add up to the report's number of
-/// documents read. After a successful run that started with an empty target, without refusing a document, the target
-/// has the source's revisions, parents and contents of leaves of each selected document. If the run succeeds and the
-/// peers were consistent (docs/PROFILE.md, "Tied peers"), the target covers each leaf of the source's selected feed,
-/// even below the session's start.
+/// documents read. If a run starts with an empty target and succeeds without refusing a document, the target has all
+/// revisions, parents and leaf contents of the source's selected documents. If the run succeeds and the peers were
+/// consistent (docs/PROFILE.md, "Tied peers"), the target covers each leaf of the source's selected feed, even below
+/// the session's start.
 ///
 /// At the source, the run changes only the outgoing logs, for every result. The target is unchanged, or has changed
 /// only by beginning the session and by calls with messages of the source. The target keeps all its documents, sessions
@@ -340,10 +340,11 @@ pub fn run<F: WriteFilter + Send + Sync, G: Gate + Sync, R: Threads + Wait + Syn
 }
 
 /// Performs a `run` that shows its progress on a board. Viewers may read the progress on the board during the run
-/// (`Board::read`). Each writer updates the board through a separate seat. Before a writer settles a parcel, the writer
-/// adds the number of documents in the parcel to the read counter of its seat. After settling the parcel, and before
-/// calling the gate at `Settled`, the writer adds the number of settled documents to the settled counter of its seat.
-/// Updating and reading the board takes no lock.
+/// (`Board::read`). Each writer updates the board through a separate seat (an access token for the board). Before a
+/// writer settles a parcel, the writer adds the number of documents in the parcel to the read counter of its seat.
+/// After the writer has settled the parcel, it adds the number of settled documents to its settled counter on the
+/// board. Only then the writer calls the gate (the `Gate` that decides whether a worker continues) at the place
+/// `Settled`. Updating and reading the board takes no lock.
 ///
 /// The caller must give one seat for each worker of the plan. For every outcome, the call returns the seats in order,
 /// and no counter of a seat has decreased. If the run succeeds, the read counters of all seats together have risen by

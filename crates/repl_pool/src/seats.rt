@@ -7,15 +7,15 @@ ghost use Rattle.pool_workers.specs.Boards.{HasNothing, WorksAt};
 use progress_board::{Board, BoardFault, BoardSeat};
 use std::alloc::Global;
 
-/// A new board with its seats. The caller gives the workers' seats to `run_on`. A viewer may call `read` with its seat
-/// during the run.
+/// A new progress board with its seats (access tokens). The caller gives the workers' seats to `run_on`. A viewer may
+/// call `read` with its seat during the run.
 #[derive(Drop)]
 pub struct Seats {
-    /// The board.
+    /// The progress board.
     pub board: Board,
-    /// A seat for each worker of the board, in the order of the workers' numbers.
+    /// A seat (an access token for the progress board) for each worker, in the order of the workers' numbers.
     pub workers: Vec<BoardSeat>,
-    /// A seat for each viewer of the board.
+    /// A seat (an access token for the progress board) for each viewer, who only reads the board.
     pub viewers: Vec<BoardSeat>,
 }
 

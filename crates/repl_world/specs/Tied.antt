@@ -29,8 +29,10 @@ pub record IsWorld (refuses : Document → Bool) (w : WorldValue) : Type 0 where
 
 -- ---- tied worlds
 
--- The bag of messages has a window at index `place`. If the window at `place` has the source's current life, this
--- window is consistent with the request `a` in `OwnAsked`, and with the parcel `p` in `OwnParcel`.
+-- The bag of messages has a window at index `place`. `OwnAsked` states that the request `a` is consistent with the
+-- window at `place`, if the window has the current life (a number that each restore raises) of the source's database.
+-- `OwnParcel` states that the parcel `p` is consistent with the window at `place`, if the window has the current life
+-- of the source's database.
 pub record OwnAsked (w : WorldValue) (place : ℕ) (a : AskedValue) : Type 0 where
   pub window : WindowValue
   pub own : slice_get w.bag.windows place ≡ Some window
@@ -44,11 +46,13 @@ pub record OwnParcel (w : WorldValue) (place : ℕ) (p : ParcelValue) : Type 0 w
 pub record Tied (w : WorldValue) : Type 0 where
   -- The target of the world is consistent with the source and with each backup of the source.
   pub peers : IsTiedWith w.backups w.source w.target w.chosen
-  -- The life (incarnation) of each window or log in the bag is at most the life of the source's database.
+  -- The life (a number that each restore raises) of each window or log in the bag is at most the life of the source's
+  -- database.
   pub window_lives : (x : WindowValue) → Among x w.bag.windows → x.life ≤ w.source.db.life
   pub log_lives : (g : ℕ × List EntryValue) → Among g w.bag.logs → g.0 ≤ w.source.db.life
-  -- A window of the bag that has the source's current life is consistent with the source's database. If the window of a
-  -- request or parcel in the bag has the source's current life, the request or parcel is consistent with the window.
+  -- If a window in the bag has the current life of the source's database, the window is consistent with this database.
+  -- If the window of a request or parcel in the bag has the current life of the source's database, the request or
+  -- parcel is consistent with the window.
   pub windows : (x : WindowValue) → Among x w.bag.windows → x.life ≡ w.source.db.life
       → IsTiedWindow w.source.db w.chosen x
   pub asked : (a : ℕ × AskedValue) → Among a w.bag.asked → OwnAsked w a.0 a.1
@@ -66,8 +70,9 @@ pub record HoldNone (source target : PeerValue) (chosen : Choice) : Type 0 where
 
 -- ---- guarantees of tied worlds
 
--- Settling a parcel of the bag never returns `Uncovered` if the session has the parcel's window, and the window has the
--- source's current life.
+-- If the session has the parcel's window, and the window and the source's database have the same life, settling the
+-- parcel never returns `Uncovered`. The window and the source's database have the same life if the database was not
+-- restored after it produced the window, because each restore raises the life.
 abbrev pub NeverUncovered : (Document → Bool) → WorldValue → Type 0
 NeverUncovered refuses w =
     (p : ℕ × ParcelValue) → Among p w.bag.parcels

@@ -5,9 +5,10 @@
 -- documents, and log entries. Messages between two databases may be late, repeated, reordered or lost. A world has two
 -- peers, and every message that was sent and not lost. A step is one call on a peer, with any message of the bag. A
 -- message stays in the bag when a step uses it, so later steps can use the message in any order. A world has backups of
--- the source. If a backup is restored, the source's database begins a new life. A crash deletes all messages, but does
--- not change the peers and the backups. A statement that is true after every list of steps is true for every exchange
--- between the two databases, even if other clients write to the databases during the exchange.
+-- the source. Restoring a backup raises the life (a number) of the source's database. A crash deletes all messages, but
+-- does not change the peers and the backups. Every exchange of messages between the two databases is a list of steps,
+-- even if other clients write to the databases during the exchange. A statement that is true after every list of steps
+-- is therefore true after every exchange of messages.
 use Rattle.std.specs.Prelude.{◌≡◌, ◌⊎◌, ℕ, ◌==◌, ◌≤◌, List, [], ◌∷◌, ◌++◌, Bool, if◌then◌else◌, Option, Some, None, IfSome, Result, Ok, Err, take, slice_get}
 use Rattle.rev_tree.specs.declared.origin.SessionId.{SessionId}
 use Rattle.doc_json.specs.Document.{Document}
@@ -116,8 +117,8 @@ puts w (Some e) = record w { source = after_put_entry w.source (rep_of w) e }
 abbrev pub crashed : WorldValue → WorldValue
 crashed w = record w { bag = empty_bag }
 
--- The source's current log of the replication, with the life (incarnation) of the source's database when the log is
--- read.
+-- The source's current log of the replication, with the life (a number that each restore raises) of the source's
+-- database when the log is read.
 abbrev pub log_of_source : WorldValue → ℕ × List EntryValue
 log_of_source w = (w.source.db.life, source_log w.source (rep_of w))
 

@@ -121,7 +121,8 @@ impl<F: WriteFilter> World<F> {
         self.bag.sizes()
     }
 
-    /// Gives proofs the invariant of the world. The call has no effect at run time.
+    /// States the invariant of the world in its contract, so that proofs can use the invariant. The call has no effect
+    /// at run time.
     fn law(&self)
         ensures { IsWorld (F.refuses self.now.0.1) self.now.1 }
     {

@@ -52,8 +52,8 @@ before_rev Diffs = codes ":["
 before_rev Docs = codes ",\"rev\":"
 before_rev Bodies = codes ",\"rev\":"
 
--- Whether a request body of the given form has one list with all revisions of a document. A request body with lists of
--- revisions is closed before a document, not after a revision.
+-- Whether a request body of the given form has one list with all revisions of a document. If a request body with lists
+-- of revisions is full, the formatter closes the body before the next document, and not after a revision.
 abbrev pub has_lists : Form → Bool
 has_lists Loads = false
 has_lists Asked = false

@@ -109,9 +109,9 @@ pub data Tracks (s r : State) (front : List ℕ) (at : ℕ) (w : Words) (part : 
       → part ≡ before w ++ cut.written → Tracks s r front at w part
   tracks_stuck : (cut : LongCut) → Rejected cut s r → part ≡ before w ++ cut.written → Tracks s r front at w part
 
--- The parser read the given bytes, and the items in these bytes were written. Of the item that was unfinished before
--- these bytes, the text `part` had been written. Of the item that is unfinished after these bytes, the text `part'` has
--- been written.
+-- The parser read the list `bytes`, and the items that end in `bytes` were written. Before the parser read `bytes`, the
+-- beginning `part` of an unfinished item had already been written. After the parser has read `bytes`, the beginning
+-- `part'` of the next unfinished item has already been written.
 pub record Feeds (s : State) (w : Words) (part bytes : List ℕ) (r' : State) (front' : List ℕ) (at' : ℕ) (w' : Words) (held held' : Option (List ℕ)) : Type 0 where
   pub part' : List ℕ
   pub tracks : Tracks (after s bytes) r' front' at' w' part'
@@ -217,10 +217,10 @@ ReadsAnswers w all held held' (Err (LateMember at)) =
     × Appends held held' (texts w told ++ (before (words_behind w told) ++ begun))
 ReadsAnswers w all held held' (Err (Device fault)) = ⊤
 
--- After the error `Read`, either the reader failed or the maximum number of reads was reached, and the writer did not
--- fail. After the error `Write`, the writer failed and the reader did not. After an error other than `Read` and
--- `Write`, neither the reader nor the writer failed. The reader's reads, the reader's failures and the writer's
--- failures are counted in `reads`, `reader` and `writer`. A prime marks a count after the call.
+-- The error `Read` means that the writer did not fail, and that either the reader failed or the maximum number of reads
+-- was reached. The error `Write` means that the writer failed, and that the reader did not fail. An error other than
+-- `Read` and `Write` means that neither the reader nor the writer failed. The reader's reads, the reader's failures and
+-- the writer's failures are counted in `reads`, `reader` and `writer`. A prime marks a count after the call.
 abbrev pub CountsOf : AnswerFault → ℕ → ℕ → ℕ → ℕ → ℕ → ℕ → Type 0
 CountsOf (Refused why at) reads reads' reader reader' writer writer' = (reader' ≡ reader) × (writer' ≡ writer)
 CountsOf (LateMember at) reads reads' reader reader' writer writer' = (reader' ≡ reader) × (writer' ≡ writer)

@@ -61,12 +61,13 @@ rest_text w text told = drop told text ++ behind w
 abbrev pub with_document : Words → List ℕ → Words
 with_document w text = counted_up (id_kept w (id_of text))
 
--- Whether the formatter's request body is full and of a form with lists of revisions.
+-- Whether the formatter's request body is full, and the body's form has one list with all revisions of each document
+-- (`has_lists`).
 abbrev pub is_over : Words → Bool
 is_over w = has_lists w.form && (nat_lt 0 w.count && w.count == w.size)
 
--- The text that closes the request body before the next document. The text is empty unless the body is full and of a
--- form with lists of revisions.
+-- The text that closes the request body before the next document. The text is empty unless the request body is full,
+-- and its form has one list with all revisions of each document.
 abbrev pub over_text : Words → List ℕ
 over_text w = cond (is_over w) (closing w.form) []
 
@@ -81,7 +82,8 @@ first_rev_text w text =
 abbrev pub with_first_rev : Words → Words
 with_first_rev w = record (counted_up (over w)) { listed = true }
 
--- Whether the next revision is added to a document's list of revisions that has a revision already.
+-- Whether the request body has one list with all revisions of the current document, and this list already has a
+-- revision.
 abbrev pub is_further : Words → Bool
 is_further w = has_lists w.form && w.listed
 

@@ -221,9 +221,9 @@ fn feed_part<W: ScriptWrite>(
     }
 }
 
-/// Writes a run of bytes in a string of a long document, which the parser does not store. If the given bytes do not
-/// begin with a run that the parser may skip, the call lets the parser read some of the given bytes. Returns the number
-/// of bytes that were read.
+/// Writes a run (consecutive bytes of a string in a long document) without storing the bytes of the run in the parser.
+/// If the given bytes do not begin with a run, the call lets the parser read some of the given bytes. Returns the
+/// number of bytes that were read.
 fn feed_some<W: ScriptWrite>(
     reading: &mut Reading,
     front: &mut Front,
@@ -410,12 +410,12 @@ fn run_chunks<R: ScriptRead, W: ScriptWrite>(
 ///
 /// # Errors
 ///
-/// - `Refused` if the input is not a response. All items before the rejected byte have been written. If the rejected
-///   byte is in a long document, the beginning of this document may also have been written.
-/// - `LateMember` at the end of a long document that has a member `_id`, `_rev`, `_revisions` or `_deleted` after an
-///   attachment. All earlier items, and the beginning of the document, have been written.
-/// - `Device` if the reader, the writer or an allocation failed. The fault in `Device` is `Read` if the reader failed
-///   in this call, or after 4,294,967,295 reads of at most 65,536 bytes. The fault in `Device` is `Write` if the writer
+/// - `Refused`: the input is not a response. All items before the rejected byte have been written. If the rejected byte
+///   is in a long document, the beginning of this document may also have been written.
+/// - `LateMember`: in a long document, a member `_id`, `_rev`, `_revisions` or `_deleted` follows an attachment. All
+///   items before this document, and the beginning of this document, have been written.
+/// - `Device`: the reader, the writer or an allocation failed. The fault in `Device` is `Read` if the reader failed in
+///   this call, or after 4,294,967,295 reads of at most 65,536 bytes. The fault in `Device` is `Write` if the writer
 ///   failed in this call, and `Memory` if an allocation failed.
 pub fn run_answers<R: ScriptRead, W: ScriptWrite>(
     alloc: Global,
@@ -455,8 +455,9 @@ pub fn run_answers<R: ScriptRead, W: ScriptWrite>(
     ensures ok { IfOk result (λ passed. Answered reading.old.wanted (words_of_wording wording.old)
         (R.left reader.old) (W.held writer.old) (W.held writer.new) passed) }
     ensures end { OnOk result (IsAtEnd (R.left reader.new)) }
-    // The clause `took` says of the bytes that the reads returned what the clauses `ok` and `fault` say of the reader's
-    // remaining bytes. If the call succeeds, the reads returned the complete input.
+    // The clauses `ok` and `fault` describe the output for the bytes that the reader still had before the call. The
+    // clause `took` describes the output for the bytes that the reads of this call returned. If the call succeeds, the
+    // reads returned the complete input.
     ensures took { (input : List ℕ) × Appends (R.taken reader.old) (R.taken reader.new) input
         × Converts result reading.old.wanted (words_of_wording wording.old) (Some input) (W.held writer.old)
         (W.held writer.new) }

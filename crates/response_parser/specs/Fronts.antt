@@ -11,13 +11,13 @@ use Rattle.response_parser.specs.Values.{document_found}
 use Rattle.response_parser.specs.declared.place.Wanted.{Wanted}
 use Rattle.response_parser.specs.declared.place.Wanted.TheVariants.{Documents, Enveloped, Bodies, Unfolded, Leaves, Changes}
 
--- The minimum number of bytes that a document has before the first run (a part of a string) that the parser does not
--- store.
+-- The minimum number of bytes of a document that the parser stores before it passes on a run (consecutive bytes of a
+-- string) without storing the run.
 abbrev pub long : ℕ
 long = 262144
 
--- A document's beginning s may be followed by a run of bytes that the parser does not store. The output for each
--- document that begins with s begins with S.
+-- The text s is the beginning of a document, after which a run (consecutive bytes of a string that the parser does not
+-- store) may follow. For each document that begins with the text s, the output begins with the text S.
 abbrev pub IsStart : Wanted → List ℕ → List ℕ → Type 0
 IsStart Documents s S = ⊥
 IsStart Enveloped s S = IsPutStart s S
@@ -37,8 +37,8 @@ pub record Cut : Type 0 where
 abbrev pub IsCut : Wanted → Cut → Type 0
 IsCut wanted c = Front (IsStart wanted) c.full c.stored c.written c.front
 
--- The text of the state s begins with `cut.full`, a document's beginning of at least `long` bytes, and `written` is the
--- output for this beginning.
+-- The text of the parser's state s begins with `cut.full`, which is the beginning of a document and has at least `long`
+-- bytes. The text `written` is the output for `cut.full`.
 pub record HasWritten (s : State) (written : List ℕ) : Type 0 where
   pub cut : Cut
   pub behind : List ℕ
@@ -47,10 +47,10 @@ pub record HasWritten (s : State) (written : List ℕ) : Type 0 where
   pub length_is : long ≤ length cut.full
   pub is : written ≡ cut.written
 
--- The parser has just found a document in the state s, and `written` is the output for a long beginning of the
--- document. A member that the document's envelope does not wrap follows the document's long beginning. The output for
--- the stored text (the document without its runs) does not begin with `cut.front`, the output for the beginning of this
--- text.
+-- In the parser's state s, the parser has just read the end of a document. The text `written` is the output for
+-- `cut.full`, a long beginning of the document. After `cut.full`, the document has a member that its envelope stores
+-- outside of the member `whole` (`_id`, `_rev`, `_revisions` or `_deleted`). Therefore the output for the document
+-- without its runs does not begin with `cut.front`, the output for the beginning without its runs.
 pub record IsLate (s : State) (written : List ℕ) : Type 0 where
   pub cut : Cut
   pub rest : List ℕ

@@ -19,14 +19,17 @@ pub record IsValue (t u : List ℕ) : Type 0 where
   pub first : is_space (slice_index t 0) ≡ false
   pub json : is_json u ≡ true
 
--- The text k is a name without its opening quotation mark. The parameter `first` says whether k is the first name of
--- its object, d is the number of open lists and objects, and `name` is the meaning of k.
+-- The text k is the name of a member without the opening quotation mark, and `name` is the kind of the member. The
+-- Boolean `first` is true if the member is the first member of its object. The number d counts the open lists and
+-- objects.
 pub record IsNamed (wanted : Wanted) (first : Bool) (d : ℕ) (k : List ℕ) (name : Name) : Type 0 where
   pub string : EndsString k
   pub json : is_json (34 ∷ k) ≡ true
   pub says : name_of wanted first false false d (34 ∷ k) ≡ name
 
--- The contents of a named value: a document, if the name's meaning is a document and the value is an object.
+-- The items that the parser returns for a member's value. If the kind of the member is `Document` and the value is an
+-- object, the value is one item, a document. If the kind is `Document` and the value is not an object, or if the kind
+-- is `Passed`, `Last` or `Other`, the value has no items.
 pub data Holds (wanted : Wanted) : Name → List ℕ → List Piece → Type 0 where
   document : {u v : List ℕ} → (slice_index u 0 == 123) ≡ true → covered wanted u ≡ Some v → Holds wanted Document u ((found.Document, v) ∷ [])
   no_object : {u : List ℕ} → (slice_index u 0 == 123) ≡ false → Holds wanted Document u []

@@ -1,6 +1,7 @@
 -- This file compares a parser that does not store the runs (parts of strings) of a long document with a parser that
--- stores each byte. The *full* state is the state of a parser that stores each byte. The *stored* state has the same
--- fields, but the stored text lacks the runs.
+-- stores each byte. The *full* state is the state of a parser that stores each byte. The *stored* state is the state of
+-- a parser that does not store the runs. The stored state is equal to the full state, except that the text of the
+-- stored state lacks the runs of the document.
 use Rattle.std.specs.Prelude.{◌≡◌, ℕ, ◌≤◌, ◌==◌, length, slice_index, List, ◌++◌, Bool, true, false}
 use Rattle.doc_envelope.specs.Names.{is_log}
 use Rattle.response_parser.specs.Names.{is_plain}
@@ -42,7 +43,8 @@ pub data Like (a b : State) : Type 0 where
   equal : a ≡ b → Like a b
   alike : a ≡ record b { text = a.text } → is_idle b.place ≡ true → Like a b
 
--- Whether the value of a name may be a document, which the parser finds when the value ends.
+-- Whether the value of a member may be a document, given the kind of the member. The parser decides at the end of the
+-- value whether the value is a document.
 abbrev pub is_document : Name → Bool
 is_document names.Plain = true
 is_document names.Document = true

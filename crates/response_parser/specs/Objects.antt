@@ -121,8 +121,8 @@ abbrev pub after_member : State → ℕ → State
 after_member s b =
     cond (is_space b) s (cond (b == 44) (at NextMember s) (cond (b == 125) (object_closed s) (refused NotJson s)))
 
--- The parser's state in a document whose first name was just read. In this state of the parser, the document's text is
--- the brace and the name.
+-- The parser's state after it has read the first name of a document, which is `_id`. After the parser has read the
+-- first name of a document, the stored text is the opening brace and the name `_id` in quotation marks.
 abbrev pub plain_begun : State → State
 plain_begun s = record s { place = Value names.Plain; text = codes "{\"_id\""; nesting = 1 }
 

@@ -35,8 +35,9 @@ pub record Copies (s : State) (bytes : List ℕ) (name : Name) (quoted : Bool) (
   pub none : pieces s bytes ≡ []
 
 -- If the parser can copy the given bytes up to position `from` into a value, the parser can also copy the bytes up to
--- position `to`. The parameters q and n say whether the position `from` is within a string, and how many brackets are
--- open there. The parameters q' and n' say the same about the position `to`.
+-- position `to`. The Boolean q says whether the position `from` is within a string, and n is the number of brackets
+-- that are open at `from`. The Boolean q' says whether the position `to` is within a string, and n' is the number of
+-- brackets that are open at `to`.
 abbrev pub Continues : List ℕ → ℕ → Bool → ℕ → ℕ → Bool → ℕ → Type 0
 Continues bytes from q n to q' n' =
     (s : State) → (name : Name) → (q0 : Bool) → (n0 : ℕ) → IsInValue s name q0 n0 → Copies s (take from bytes) name q n

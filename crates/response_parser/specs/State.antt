@@ -25,12 +25,13 @@ pub record State : Type 0 where
   pub inner : Bool
   -- Whether the current response is a response of `_revs_diff`.
   pub diff : Bool
-  -- Whether the current response has a string `error`, after which the parser has entered no list or object.
+  -- Whether the parser has read a member `error` whose value is a string since it last entered or left a list or an
+  -- object that it searches.
   pub failed : Bool
   -- The number of brackets that are open within the parser's current value.
   pub nesting : ℕ
-  -- The part of the current name or value that the parser has stored. The text is complete after the end of the name or
-  -- value.
+  -- The part of the current name or value in the input that the parser has stored. After the name or value has ended,
+  -- the stored text is the complete name or value, except for the runs (consecutive string bytes) of a long document.
   pub text : List ℕ
   -- The text of CouchDB's error, from the last member `error`.
   pub error : List ℕ

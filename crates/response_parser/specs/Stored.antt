@@ -28,6 +28,7 @@ state_of r = record {
 abbrev pub front_of : Front → List ℕ
 front_of f = f.text.items
 
--- The number of bytes of the document that the parser had stored when the front was built.
+-- The number of bytes of the current document that the parser had stored when it built the front (the beginning of the
+-- document's output).
 abbrev pub front_length_of : Front → ℕ
 front_length_of f = f.length

@@ -84,7 +84,7 @@ impl Spot {
         }
     }
 
-    /// Returns the position after a byte of a value that is not in a string.
+    /// Returns the position after the next byte of a value, if the current position is not inside a string.
     #[inline(always)]
     fn outside(self, bytes: &[u8]) -> Spot
         requires within { self.count < length bytes.now }
@@ -106,8 +106,8 @@ impl Spot {
         }
     }
 
-    /// Returns the position after a byte that is not in a string, by its kind (quotation mark, bracket, blank or
-    /// another byte).
+    /// Returns the position after `byte`, if the current position is not inside a string. The result depends on whether
+    /// `byte` is a quotation mark, a bracket, a blank or another byte.
     #[inline(always)]
     fn past_sign(self, bytes: &[u8], byte: u8) -> Spot
         requires within { self.count < length bytes.now }

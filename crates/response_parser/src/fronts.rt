@@ -16,20 +16,22 @@ use std::alloc::{AllocError, Global};
 /// The minimum number of bytes of a document that the parser stores before it passes bytes on without storing them.
 const LONG: usize = 262_144;
 
-/// The parser builds a front (the beginning of a document's output) only for a run that has at least `RUN` bytes in one
-/// read.
+/// The parser builds a front (the beginning of a document's output) only if at least `RUN` consecutive bytes of a
+/// string follow in the bytes of the current read.
 const RUN: usize = 1_024;
 
 /// After an attempt to build a front for a text of n bytes, the parser reads at least n / 4 further bytes before the
 /// next attempt.
 const SHARE: u64 = 4;
 
-/// The beginning of the current document's output. The caller writes this beginning before the document ends. The front
-/// is empty if the caller has not written a byte of the current document.
+/// The beginning of the current document's output, called the front. The caller writes the front (the beginning of a
+/// document's output) before the document ends. The front is empty if the caller has not yet written a byte of the
+/// current document's output.
 #[derive(Drop)]
 pub struct Front {
     text: Vec<u8>,
-    /// The number of bytes of the document that the parser had stored when it built the front.
+    /// The number of bytes of the current document that the parser had stored when it built the front (the beginning of
+    /// the document's output).
     length: usize,
     /// The number of read bytes after which the parser may build a front again.
     next: u64,
@@ -61,9 +63,10 @@ impl Front {
         self.text.clear();
     }
 
-    /// Reads a run of bytes in a string of a long document, without storing these bytes. The caller must write the
-    /// bytes that the call has added to the front, and then the run. Returns the number of bytes in the run, or 0 if
-    /// the parser must read the next bytes itself.
+    /// Reads a run (consecutive bytes of a string in a long document) without storing the bytes of the run. After the
+    /// call, the caller must write the bytes that the call has added to the front (the beginning of the document's
+    /// output), and then the bytes of the run. Returns the number of bytes in the run, or 0 if the parser must read the
+    /// next bytes itself.
     pub fn pass(&mut self, reading: &mut Reading, bytes: &[u8]) -> Result<usize, AllocError>
         ensures within { IfOk result (λ count. count ≤ length bytes.now) }
         ensures none { IfOk result (λ count. count ≡ 0 → (state_of reading.new ≡ state_of reading.old)
@@ -87,7 +90,8 @@ impl Front {
     }
 
     /// Whether a run of `count` bytes (string bytes that are passed on without being stored) may follow the stored
-    /// text. The call builds the front if the text has grown.
+    /// text. If the stored text has grown since the front (the beginning of the document's output) was built, the call
+    /// builds the front again, within the limits of `RUN` and `SHARE`.
     fn may_pass(&mut self, reading: &mut Reading, count: usize) -> Result<bool, AllocError>
         ensures same { OnOk result (state_of reading.new ≡ state_of reading.old) }
         ensures none { IfOk result (λ ok. ok ≡ false → (front_of self.new ≡ front_of self.old)

@@ -268,7 +268,7 @@ fn is_known(name: Name) -> bool
     !matches!(name, Name::Other | Name::Id | Name::Reason)
 }
 
-/// Whether an object is a document because it has a member of this name.
+/// Whether a member's name means that the member's object is a document.
 pub(crate) fn is_plain(name: Name) -> bool
     ensures { result ≡ is_plain name }
 {

@@ -7,13 +7,13 @@ use thiserror::Error;
 pub enum Wanted {
     /// Documents in CouchDB responses. The parser skips objects without a document.
     Documents,
-    /// Documents in CouchDB responses. The parser wraps each document of a response in an envelope, and skips objects
-    /// without a document.
+    /// Documents in CouchDB responses. The parser wraps each document in an envelope, and skips objects without a
+    /// document.
     Enveloped,
     /// Documents in CouchDB responses. The parser rejects objects without a document.
     Bodies,
-    /// Documents in CouchDB responses. The parser unwraps these documents from their envelopes. The parser rejects
-    /// objects without a document.
+    /// Documents in CouchDB responses. The parser unwraps each document from its envelope. The parser rejects objects
+    /// without a document.
     Unfolded,
     /// Document ids and revisions in a changes feed or a `_revs_diff` response.
     Leaves,
@@ -136,11 +136,11 @@ pub enum RevPlace {
     First,
     /// The next byte follows a comma in the list.
     Next,
-    /// The next byte is in a missing revision.
+    /// The next byte is in the string of a revision that the list names as missing.
     Rev,
-    /// The next byte follows a backslash in a missing revision.
+    /// The next byte follows a backslash in the string of a revision that the list names as missing.
     Escape,
-    /// The next byte follows a missing revision.
+    /// The next byte follows the string of a revision that the list names as missing.
     Behind,
 }
 

@@ -31,11 +31,12 @@ pub struct Reading {
     pub(crate) inner: bool,
     /// Whether the current response is a response of `_revs_diff`.
     pub(crate) diff: bool,
-    /// Whether the current response has a string `error`, after which the parser has entered no list or object.
+    /// Whether the parser has read a member `error` whose value is a string since it last entered or left a list or an
+    /// object that it searches.
     pub(crate) failed: bool,
     /// The number of brackets of the current value that are open.
     pub(crate) nesting: u8,
-    /// The part of the current name or value that the parser has stored.
+    /// The part of the current name or value in the input that the parser has stored.
     pub(crate) text: Vec<u8>,
     /// The text of CouchDB's last error in the input.
     pub(crate) error: Vec<u8>,
@@ -86,7 +87,7 @@ impl Reading {
         ensures state { IfOk result (λ count. state_of self.new ≡ after (state_of self.old) (take count bytes.now)) }
         ensures pieces { IfOk result
             (λ count. pieces (state_of self.old) (take count bytes.now) ≡ given (state_of self.new)) }
-        // No byte before the last byte that this call read completes an item.
+        // Only the last byte that this call read may complete an item.
         ensures first { IfOk result (λ count. pieces (state_of self.old) (take (count - 1) bytes.now) ≡ []) }
         ensures all { IfOk result (λ count. stops (state_of self.new) ≡ false → count ≡ length bytes.now) }
     {

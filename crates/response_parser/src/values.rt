@@ -57,7 +57,8 @@ impl Reading {
         }
     }
 
-    /// Reads a byte of white space of a value that is not in a string. The parser drops white space before a value.
+    /// Reads a byte of white space that is in a member's value, but outside of strings. The parser drops white space
+    /// before a value.
     fn space(&mut self) -> Result<(), AllocError>
         ensures { OnOk result (state_of self.new ≡ spaced (state_of self.old)) }
     {

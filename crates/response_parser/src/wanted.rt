@@ -4,21 +4,21 @@ ghost use Rattle.response_parser.specs.Wanted.{wants_documents, wants_leaves, wa
 
 use crate::place::{Place, Wanted};
 
-/// Whether documents are requested.
+/// Whether the caller of the parser requested documents.
 pub(crate) fn wants_documents(wanted: Wanted) -> bool
     ensures { result ≡ wants_documents wanted }
 {
     !matches!(wanted, Wanted::Leaves | Wanted::Changes)
 }
 
-/// Whether the caller requested document ids and revisions in CouchDB responses.
+/// Whether the caller of the parser requested the document ids and revisions that CouchDB responses list (`Leaves`).
 pub(crate) fn wants_leaves(wanted: Wanted) -> bool
     ensures { result ≡ wants_leaves wanted }
 {
     matches!(wanted, Wanted::Leaves)
 }
 
-/// Whether the caller requested the changes in a script's output.
+/// Whether the caller of the parser requested the changes in a script's output (`Changes`).
 pub(crate) fn wants_changes(wanted: Wanted) -> bool
     ensures { result ≡ wants_changes wanted }
 {

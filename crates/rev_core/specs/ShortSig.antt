@@ -11,7 +11,7 @@ is_hex_digit b = nat_le 48 b && nat_le b 57 || nat_le 97 b && nat_le b 102
 abbrev pub digit_of : ℕ → ℕ
 digit_of value = if nat_lt value 10 then value + 48 else value + 87
 
--- The hexadecimal digits of a list of bytes: first the high digit of each byte, and then the low digit of each byte.
+-- The hexadecimal digits of a list of bytes: first the high digits of all bytes, and then the low digits of all bytes.
 abbrev pub digits_of : List ℕ → List ℕ
 digits_of bytes = map (λ b. digit_of (b / 16)) bytes ++ map (λ b. digit_of (b % 16)) bytes
 
@@ -25,6 +25,7 @@ unfoldable pub bytes_in : ℕ → ℕ → List ℕ
 bytes_in front back = to_le_bytes w64 front ++ to_le_bytes w64 back
 
 -- The signature that the integers `front` and `back` encode. If `len` is 0, the signature is the 32 hexadecimal digits
--- of the integers' 16 bytes. Otherwise the signature is the integers' first `len` bytes.
+-- of the 16 bytes of `front` and `back`. If `len` is not 0, the signature is the first `len` bytes of `front` and
+-- `back`.
 abbrev pub text_in : ℕ → ℕ → ℕ → List ℕ
 text_in len front back = if len == 0 then digits_of (bytes_in front back) else take len (bytes_in front back)

@@ -169,7 +169,7 @@ fn padded(text: &[u8]) -> [u8; 64]
 {
     let mut bytes = [0; 64];
     if text.len() == 32 {
-        // Most signatures are the 32 digits of a digest. The compiler can inline a copy of this fixed length.
+        // Most signatures are the 32 digits of a digest. The compiler can inline a copy of exactly 32 bytes.
         bytes[..32].copy_from_slice(text);
     } else {
         bytes[..text.len()].copy_from_slice(text);

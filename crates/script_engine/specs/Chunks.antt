@@ -23,7 +23,7 @@ ReadsChunk true left left' chunk = Consumes left left' chunk × (0 < length chun
 ReadsChunk false left left' chunk = Keeps left left' × IsAtEnd left' × (chunk ≡ [])
 
 -- A reader made `turns` reads, and no read failed. The counts of the reader's reads and failures are `reads` and
--- `failures` before these reads, and `reads'` and `failures'` after these reads.
+-- `failures` before the `turns` reads, and `reads'` and `failures'` after the `turns` reads.
 pub record HasRead (turns reads reads' failures failures' : ℕ) : Type 0 where
   pub made : counted reads' 0 ≡ counted reads turns
   pub unfailing : failures' ≡ failures

@@ -6,8 +6,8 @@ use Rattle.std.specs.Char.{digit_char, is_control}
 use Rattle.std.specs.List.{flat_map, list_any}
 
 -- The ranges of hidden characters above U+009F. The hidden characters are format characters, direction marks, line and
--- paragraph separators, and characters that Unicode 15 calls default-ignorable. The ranges also include U+FFFE and
--- U+FFFF, which XML forbids.
+-- paragraph separators, and characters that Unicode 15 calls default-ignorable. The characters U+FFFE and U+FFFF are
+-- also hidden, because XML forbids them.
 abbrev pub hidden_ranges : List (ℕ × ℕ)
 hidden_ranges =
     (0xAD, 0xAD) ∷ (0x34F, 0x34F) ∷ (0x600, 0x605) ∷ (0x61C, 0x61C) ∷ (0x6DD, 0x6DD) ∷ (0x70F, 0x70F) ∷ (0x890, 0x891)
@@ -39,7 +39,7 @@ escape_of c =
 abbrev pub visible_char : ℕ → List ℕ
 visible_char c = if is_hidden c then escape_of c else c ∷ []
 
--- A text after each hidden character was replaced by the character's escape.
+-- The given text, in which each hidden character is replaced by the character's escape.
 abbrev pub visible : List ℕ → List ℕ
 visible cs = flat_map visible_char cs
 

@@ -55,7 +55,8 @@ impl<'v, 'a> Command<&'v Line<'a>> for Restore<'v> {
     }
 }
 
-/// Prints the names of the database and of the backup, and the database's update sequence and life.
+/// Prints the names of the database and of the backup, and the database's update sequence and life (the number that
+/// each restore raises).
 fn print(answer: &mut Vec<u8>, db: &str, name: &str, back: PutBack) -> Result<(), AllocError>
     ensures { OnOk result (answer.new.items ≡ answer.old.items ++ restored_line db.now name.now back) }
 {
@@ -67,7 +68,7 @@ fn print(answer: &mut Vec<u8>, db: &str, name: &str, back: PutBack) -> Result<()
     answer.extend_from_slice(b"\n")
 }
 
-/// Appends the update sequence and the life of a restored database.
+/// Appends the update sequence and the life (the number that each restore raises) of a restored database.
 fn push_left(answer: &mut Vec<u8>, back: PutBack) -> Result<(), AllocError>
     ensures { OnOk result (answer.new.items ≡ answer.old.items ++ left_part back) }
 {

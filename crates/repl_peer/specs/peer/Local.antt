@@ -10,7 +10,8 @@ use Rattle.couch_base.specs.Edit.{edited, edit_document}
 use Rattle.couch_base.specs.declared.fault.BaseFault.{BaseFault}
 use Rattle.repl_peer.specs.peer.Peer.{WrittenValue, written_of}
 
--- The list of local writes after a put of document d. A local write is added if the put changes the database.
+-- The list of local writes after a put of document d. If the put of d changes the database, the write of d is appended
+-- to the list of local writes.
 abbrev pub with_load : DatabaseValue → List WrittenValue → Document → List WrittenValue
 with_load db locals d = if is_changed (put_answer db d) then locals ++ written_of d ∷ [] else locals
 
@@ -19,7 +20,8 @@ abbrev pub with_edited : DatabaseValue → List WrittenValue → Id → Bool →
 with_edited db locals id deleted body (Ok e) = with_load db locals (edit_document id e deleted body)
 with_edited db locals id deleted body (Err fault) = locals
 
--- The list of local writes after an edit. A local write is added if the edit changes the database.
+-- The list of local writes after an edit. If the edit changes the database, the write of the edited document is
+-- appended to the list of local writes.
 abbrev pub with_edit : DatabaseValue → List WrittenValue → Id → Option RevId → Bool → List ℕ → List WrittenValue
 with_edit db locals id parent deleted body = with_edited db locals id deleted body (edited db id parent deleted body)
 

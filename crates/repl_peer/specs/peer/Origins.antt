@@ -45,8 +45,8 @@ pub record IsFed (p : PeerValue) (id : Id) (r : RevId) (session : SessionId) (se
   pub arrived : IsArrival by id r
 
 -- The origin that is given for revision r of document `id` is correct. If the origin is a local write, peer p has the
--- write (`IsLocal`). If the origin is a session and a sequence, peer p has the session with a row at this sequence and
--- an arrival that has the revision (`IsFed`).
+-- write (`IsLocal`). If the origin is a session and a sequence, peer p has this session. The session of the origin has
+-- a row of the document at the origin's sequence, and an arrival (a stored document) with the revision r (`IsFed`).
 abbrev pub ComesFrom : PeerValue → Id → RevId → Origin → Type 0
 ComesFrom p id r (Local n) = IsLocal p id r n
 ComesFrom p id r (Feed session seq) = IsFed p id r session seq

@@ -63,15 +63,16 @@ coded_scope =
     (λ c. (c.rep, (c.life, (c.base, c.goal))))
     (λ p. record { rep = p.0; life = p.1.0; base = p.1.1.0; goal = p.1.1.1 }) (λ _. refl)
 
--- The encoded front, windows and recorded sequence of a session.
+-- The type of the triples by which the encoding represents three parts of a session: the front (which windows are
+-- done), the windows, and the recorded sequence.
 abbrev Windows : Type 0
 Windows = FrontValue × (List WindowValue × ℕ)
 
--- The encoded arrivals and ledger of a session.
+-- The type of the pairs by which the encoding represents a session's arrivals (stored documents) and its ledger.
 abbrev Brought : Type 0
 Brought = List WrittenValue × List RefusedValue
 
--- The encoded counts and the two timestamps of a session.
+-- The type of the pairs by which the encoding represents a session's counts and its two timestamps.
 abbrev Counted : Type 0
 Counted = Counts × (ℕ × ℕ)
 

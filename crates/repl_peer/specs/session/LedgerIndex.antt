@@ -15,7 +15,8 @@ abbrev pub is_in_first : LedgerIndex → Id → RevId → Bool
 is_in_first index id r =
     option_map_or (λ doc. is_among r (arc_value {X = Document} doc).ancestry) (lookup (bytes_eq id) index.first.entries) false
 
--- Whether the index has revision r in the ancestry of a later ledger document with the id `id`.
+-- Whether the index has revision r in the ancestry of a ledger document with the id `id` that is not the first ledger
+-- document with this id.
 abbrev pub is_in_later : LedgerIndex → Id → RevId → Bool
 is_in_later index id r = option_map_or (λ revs. is_among r revs.keys) (lookup (bytes_eq id) index.later.entries) false
 

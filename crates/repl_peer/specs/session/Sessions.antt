@@ -137,7 +137,7 @@ record_answer p id = session_answer p id (λ s. Ok (low_water s.front))
 abbrev pub after_record : PeerValue → SessionId → ℕ → PeerValue
 after_record p id at = on_session p id (recorded_at at)
 
--- The report that concluding session s returns.
+-- The report that the call `conclude` returns for session s.
 abbrev pub report_of : SessionValue → Report
 report_of s = record {
   session = s.id;
@@ -146,7 +146,8 @@ report_of s = record {
   counts = s.counts;
 }
 
--- The result of concluding session s: a report if the low water of s equals the goal of s, otherwise `Unfinished`.
+-- The result of the call `conclude` for session s: a report if the low water of s equals the goal of s, otherwise
+-- `Unfinished`.
 abbrev pub conclude_in : SessionValue → Result Report TargetFault
 conclude_in s =
     if low_water s.front == s.goal then Ok (report_of (record s { recorded = low_water s.front }))

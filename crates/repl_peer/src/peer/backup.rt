@@ -97,7 +97,8 @@ impl<F: WriteFilter> Peer<F> {
     ///
     /// - `IsTarget`: the peer has an incoming session.
     /// - `ForeignBackup`: the backup's database has another UUID.
-    /// - `LifeFull`: no life is left.
+    /// - `LifeFull`: the life of the restored database (a number that each restore raises) would exceed
+    ///   9,007,199,254,740,991.
     /// - `Memory`: an allocation failed.
     pub fn restore(&mut self, backup: &Backup) -> Result<(), TargetFault>
         ensures answer { GivesUnlessMemory result (restore_answer self.old.1 backup.now) }

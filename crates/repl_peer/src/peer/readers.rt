@@ -1,4 +1,4 @@
-//! Calls that read the parts of a peer. None of these calls allocates.
+//! Calls that read the parts of a peer. No call in this file allocates.
 use crate::peer::Peer;
 use crate::peer::filter::WriteFilter;
 use crate::peer::written::Written;
@@ -60,7 +60,8 @@ impl<F: WriteFilter> Peer<F> {
     }
 
     /// Returns the arrivals (stored documents) of a session in order, if the peer has the session. The first part of
-    /// the result is a list of lists of arrivals. The second part of the result is the list of all later arrivals.
+    /// the result is a list of lists of arrivals. The second part of the result is the list of all arrivals that follow
+    /// the arrivals in the first part.
     pub fn arrivals(&self, id: SessionId) -> Option<(&[Vec<Written>], &[Written])>
         ensures { option_map (λ lists. flat_map (λ list. list.items) lists.0.now ++ lists.1.now) result
             ≡ option_map (λ s. s.arrivals) (session_in self.now.1.sessions id) }

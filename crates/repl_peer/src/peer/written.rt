@@ -99,7 +99,8 @@ impl Written {
     }
 
     /// Returns the write's revision at an index, or `None` if there is no such revision. The newest revision has index
-    /// 0. All revisions but the newest are read from the database that has the write.
+    /// 0. The call reads a revision other than the newest from the document's tree in the database `db`, which has all
+    /// revisions of the write.
     pub fn rev(&self, db: &Database, place: usize) -> Option<Rev>
         requires { StandsIn db.now self.now }
         ensures { result ≡ slice_get self.now.ancestry place }

@@ -2,7 +2,8 @@
 use repl_log::RepId;
 use rev_tree::SessionId;
 
-/// The replication, the life, the base and the goal of a session, which never change (docs/PROFILE.md, "Sessions of a
+/// The replication, the life of the source's database, the earlier session that the session continues (base), and the
+/// sequence up to which it reads (goal). These parameters of a session never change (docs/PROFILE.md, "Sessions of a
 /// peer").
 #[derive(Debug, Drop)]
 pub struct Scope {
@@ -20,7 +21,8 @@ pub struct Scope {
 /// The parameters of a new session.
 #[derive(Debug, Drop)]
 pub struct Beginning {
-    /// The replication, the base, the goal and the life of the new session.
+    /// The new session's replication, the life of the source's database, the earlier session that the new session
+    /// continues (base), and the sequence up to which it reads (goal).
     pub scope: Scope,
     /// The source's sequence above which the session reads.
     pub start: u64,

@@ -1,12 +1,12 @@
-//! Stores values that are dropped only after settling.
+//! Stores the parts of a parcel that are dropped only after the peer has settled (processed) the parcel.
 use couch_base::{Asked, PreparedTree};
 use doc_json::{Doc, DocId};
 use rev_core::Rev;
 use std::alloc::Global;
 
 /// The parts of a settled parcel that are not dropped at once: the request, documents, gone revisions and unused
-/// prepared trees. These parts are dropped together with the `DeferredDrops` value, after the peer has settled the
-/// parcel.
+/// prepared trees. The parts in a `DeferredDrops` value are dropped together with the value, after the peer has settled
+/// the parcel.
 #[derive(Drop)]
 pub struct DeferredDrops {
     asked: Option<Asked>,

@@ -14,13 +14,14 @@ use std::sync::Arc;
 /// The revisions in the ancestries of refused documents, by document id.
 ///
 /// For most document ids, the ledgers have at most one document. The index shares the first document of each id with
-/// the document's ledger row, and does not copy the document's revisions. For an id with several documents, the index
-/// stores the revisions of all later documents in one set. A lookup therefore does not scan the later documents.
+/// the document's ledger row, and does not copy the document's revisions. For an id with several ledger documents, the
+/// index stores the revisions of all these documents except the first in one set. A lookup of an id therefore scans
+/// only the first ledger document with the id.
 #[derive(Drop)]
 pub(crate) struct LedgerIndex {
     /// For each document id, the first ledger document with this id.
     first: IndexMap<DocId, Arc<Doc>>,
-    /// For each document id, the revisions of all later ledger documents with this id.
+    /// For each document id, the revisions of all ledger documents with this id except the first.
     later: IndexMap<DocId, IndexSet<Rev>>,
 }
 
@@ -55,7 +56,8 @@ impl LedgerIndex {
         }
     }
 
-    /// Whether a revision is in the ancestry of a later ledger document with the given id.
+    /// Whether a revision is in the ancestry of a ledger document with the given id that is not the first ledger
+    /// document with this id.
     fn is_in_later(&self, id: &DocId, rev: Rev) -> bool
         ensures { result ≡ is_in_later self.now id.now rev }
     {

@@ -6,8 +6,9 @@ use couch_base::Window;
 use std::alloc::Global;
 use std::marker::Model;
 
-/// A window, optionally with a prebuilt form of the window without leaves. When the window is done, the session keeps
-/// only the form without leaves. A prebuilt form of a window without leaves is built before the peer is locked.
+/// A window, optionally with a prebuilt copy of the window whose rows have no leaves (`DoneWindow`). When the window is
+/// done, the session keeps only the copy of the window whose rows have no leaves, unless the allocation for this copy
+/// failed. The call `prepare` builds the copy of the window before the peer is locked.
 pub struct ReadyWindow {
     window: Window,
     done: Option<DoneWindow>,
@@ -33,15 +34,15 @@ impl Model for ReadyWindow {
 }
 
 impl ReadyWindow {
-    /// Creates a `ReadyWindow` of a window. The call does not build the form of the window without leaves.
+    /// Creates a `ReadyWindow` of a window. The call does not build the copy of the window whose rows have no leaves.
     pub fn new(window: Window) -> ReadyWindow
         ensures { result ≡ window }
     {
         ReadyWindow { window, done: None }
     }
 
-    /// Builds the form of the window without leaves. If the allocation fails, the session builds the form without
-    /// leaves later, when the window is done.
+    /// Builds a copy of the window whose rows have no leaves. If the allocation fails, the session builds the copy of
+    /// the window later, when the window is done.
     pub fn prepare(&mut self, alloc: Global)
         ensures { self.new ≡ self.old }
     {
@@ -57,8 +58,8 @@ impl ReadyWindow {
         &self.window
     }
 
-    /// Takes the form of the window without leaves. If the form of the window without leaves was not prepared, the call
-    /// first builds the form. Returns `None` if the allocation fails.
+    /// Returns a copy of the window whose rows have no leaves (`DoneWindow`). If `prepare` has built this copy, the
+    /// call removes the copy from `self`; if not, the call builds the copy. Returns `None` if the allocation fails.
     pub(crate) fn take_done(&mut self, alloc: Global) -> Option<DoneWindow>
         ensures same { self.new ≡ self.old }
         ensures done { IfSome result (λ done. done ≡ self.old) }

@@ -9,7 +9,8 @@ use std::sync::Arc;
 
 /// A document in a ledger, and the reason why the document was refused.
 ///
-/// The index of the ledgers shares the document.
+/// The document is in an `Arc`, so that the index of the ledgers (`LedgerIndex`) can refer to the document without
+/// copying it.
 #[derive(Drop)]
 pub struct Refused {
     doc: Arc<Doc>,

@@ -70,7 +70,7 @@ impl Model for DoneWindow {
 }
 
 impl DoneWindow {
-    /// Creates a stored window that lacks the leaves of its rows.
+    /// Copies a window without the leaves of the window's rows.
     pub(crate) fn of(alloc: Global, window: &Window) -> Result<DoneWindow, AllocError>
         ensures of { IfOk result (λ w. w ≡ window.now) }
     {
@@ -133,7 +133,7 @@ pub struct StoredWindow {
 pub(crate) enum Kept {
     /// The complete window.
     Whole(ReadyWindow),
-    /// A done window without its leaves.
+    /// A done window whose rows have no leaves.
     Done(DoneWindow),
 }
 
@@ -217,7 +217,7 @@ impl StoredWindow {
         }
     }
 
-    /// Drops the leaves of the rows. If the form without leaves was not prepared, and the allocation for this form
+    /// Drops the leaves of the rows. If the rows without leaves were not prepared, and the allocation for these rows
     /// fails, the window keeps the leaves of its rows.
     pub(crate) fn let_leaves_go(&mut self, alloc: Global)
         ensures { self.new.window ≡ self.old.window }
@@ -230,7 +230,8 @@ impl StoredWindow {
     }
 }
 
-/// Drops the leaves of the window at an index, if the allocation for the form without leaves succeeds.
+/// Drops the leaves of the rows of the window at an index. If the allocation for the rows without leaves fails, the
+/// window keeps the leaves.
 pub(crate) fn let_leaves_go_at(windows: &mut Vec<StoredWindow>, place: usize)
     requires within { place < length windows.old.items }
     ensures windows { windows_of windows.new.items ≡ windows_of windows.old.items }

@@ -26,8 +26,9 @@ IsPut source target chosen source' =
     ⊎ (e : EntryValue) × IsSentEntry target e × (source' ≡ after_put_entry source (rep_between source target chosen) e)
 
 -- How a replication changes both peers. At the source of a replication, only the log may have changed. A replication's
--- target is unchanged or has grown by calls of the plan's session. After a replication, source and target stay tied to
--- each other and to third peers.
+-- target is unchanged or has grown by calls of the plan's session. A replication keeps the source and the target
+-- consistent with each other (`IsTiedWith`). `KeepsOthersTied` states when the source and the target stay consistent
+-- with third peers.
 pub record Leaves (refuses : Document → Bool) (source target : PeerValue) (plan : Plan) (source' target' : PeerValue)
     : Type 0 where
   pub log : source' ≡ record source { outgoing = source'.outgoing }

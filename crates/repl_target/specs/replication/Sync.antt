@@ -56,9 +56,9 @@ pub record Meets (a b a' b' : DatabaseValue) (id : Id) : Type 0 where
   pub whole : IsWhole (tree_of a.docs id) → IsWhole (tree_of b.docs id)
       → IsWhole (tree_of a'.docs id) × IsWhole (tree_of b'.docs id)
 
--- Suppose that, before both replications, the peers a and b were consistent in both directions (docs/PROFILE.md, "Tied
--- peers"). If so, `Meets` is true after both replications for each document that both plans select, and that neither
--- peer has ever refused.
+-- If the peers were consistent in both directions (`IsTiedPair`) before both replications, `Meets` is true afterwards
+-- for each shared document. A document is shared if both plans select the document, and neither peer has ever refused
+-- the document.
 abbrev pub MeetBoth : PeerValue → PeerValue → PeerValue → PeerValue → Plan → Plan → Type 0
 MeetBoth a b a' b' there back =
     IsTiedPair a b there.chosen → IsTiedPair b a back.chosen → (id : Id) → HasRefusedNone a' id → HasRefusedNone b' id

@@ -1,5 +1,5 @@
 //! Worked examples that wrap documents in envelopes, and unwrap documents from envelopes. Some calls get only the
-//! beginning of a text, up to a point where a run of bytes of a string may follow.
+//! beginning of a document or of an envelope.
 use doc_envelope::Envelope;
 use std::alloc::Global;
 use std::process::Abort;
@@ -11,7 +11,7 @@ enum Call {
     Put,
     /// Unwrap an envelope.
     Take,
-    /// Wrap the beginning of a document.
+    /// Wrap the beginning of a document in the beginning of an envelope.
     BeginPut,
     /// Unwrap the beginning of an envelope.
     BeginTake,
@@ -56,14 +56,16 @@ static WRAPPED: &[Row] = &[
             r#"{"_id":"a","_rev":"2-b","_revisions":{"start":2,"ids":["b","c"]},"whole":"\"x\":\"y\",\"_attachments\":{\"f\":{\"data\":\"QUJDREVGRw"#,
         ),
     ),
-    // In the next row, the call returns `false`, because the member `_revisions` may follow the input.
+    // In the row below this comment, `begin_put` returns `false`, because the rest of the document may have the member
+    // `_revisions`.
     (
         Call::BeginPut,
         r#"{"_id":"a","_rev":"2-b","_attachments":{"f":{"data":"QUJDREVGRw"#,
         None,
     ),
-    // In the next rows, the calls return `false`, because the input ends in a member other than `_attachments`, outside
-    // of a string, or shortly after a quotation mark.
+    // In the three rows below this comment, `begin_put` returns `false`. The first input ends in a member other than
+    // `_attachments`, the second input ends outside of a string, and the third input ends shortly after a quotation
+    // mark.
     (
         Call::BeginPut,
         r#"{"_id":"a","_revisions":{"start":1,"ids":["b"]},"x":{"f":{"data":"QUJDREVGRw"#,
@@ -98,8 +100,8 @@ static UNWRAPPED: &[Row] = &[
         r#"{"_id":"a","_rev":"2-b","whole":"\"x\":\"y\",\"_attachments\":{\"f\":{\"data\":\"QUJDREVGRw"#,
         Some(r#"{"_id":"a","_rev":"2-b","x":"y","_attachments":{"f":{"data":"QUJDREVGRw"#),
     ),
-    // In the next rows, the calls return `false`, because the input ends outside of a wrapped string, in a member other
-    // than `whole`, or shortly after an escape.
+    // In the three rows below this comment, `begin_take` returns `false`. The first input ends outside of a wrapped
+    // string, the second input ends in a member other than `whole`, and the third input ends shortly after an escape.
     (
         Call::BeginTake,
         r#"{"_id":"a","_rev":"2-b","whole":"\"x\":1234567890"#,

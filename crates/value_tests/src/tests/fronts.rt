@@ -1,11 +1,12 @@
-//! Worked examples of fronts: calls with expected results. The examples use each public call at least once.
+//! Worked examples of fronts (lists of adjacent windows, each of which is done or not done): calls with expected
+//! results. The examples use each public call at least once.
 use crate::tests::texts::expect_answer;
 use range_front::Front;
 use std::alloc::Global;
 use std::process::Abort;
 use test_support::shown;
 
-/// A call on a front.
+/// A call on a front (a list of adjacent windows, each of which is done or not done).
 #[derive(Clone, Copy)]
 enum Call {
     /// Append a window that ends at a sequence.

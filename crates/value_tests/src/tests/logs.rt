@@ -21,8 +21,8 @@ enum Call<'a> {
     /// Store the entry of a session that read nothing, in the log of the replication from database 1 into another
     /// database. The call's fields are the other database, the session id and the recorded sequence.
     PutInto(u128, u128, u64),
-    /// Copy the logs of all replications. Append the copied log of the replication from database 1 into another
-    /// database to the list of logs.
+    /// Copy the logs of all replications. The test keeps one copied log in its list of logs: the log of the replication
+    /// from database 1 into the database that the call names.
     CopyInto(u128),
     /// Read whether the replication from database 1 into another database has a log.
     HasInto(u128),

@@ -6,7 +6,7 @@ use std::alloc::Global;
 use std::process::Abort;
 use test_support::{rev, rev_text, revs_text, shown};
 
-/// A call on revisions given as strings.
+/// A call of the crate `rev_core` with revisions, which the test gives as strings.
 #[derive(Clone, Copy)]
 enum Call<'a> {
     /// Parse a revision, and read its generation and its signature.
@@ -23,8 +23,8 @@ enum Call<'a> {
     Contains(Parts<'a>, &'a str),
     /// Read the parent of a revision in the copy of an ancestry.
     Parent(Parts<'a>, &'a str),
-    /// Store a revision in compact form (`KeptRev`), and copy the compact revision. Read whether the revision's
-    /// signature is short, and read the string of the copy.
+    /// Store a revision in compact form (`KeptRev`), and copy the `KeptRev`. The result says whether the revision's
+    /// signature is short, and has the copied revision as a string.
     Keep(&'a str),
     /// Compute the hexadecimal digits of the digest of a string.
     Digest(&'a str),
@@ -182,7 +182,8 @@ fn parent_text(alloc: Global, parts: Parts, text: &str) -> Option<String> {
     }
 }
 
-/// Returns whether a revision has a short signature, and the string of its copied compact form.
+/// Returns a string that says whether a revision has a short signature, followed by the revision itself, read from a
+/// copy of its compact form (`KeptRev`).
 fn kept_text(alloc: Global, text: &str) -> Option<String> {
     let Some(rev) = rev(text) else {
         return None;
@@ -207,7 +208,8 @@ fn form_text(alloc: Global, rev: &Rev) -> Option<String> {
     }
 }
 
-/// Returns the string of a copy of a compact revision.
+/// Stores a revision in compact form (`KeptRev`), and returns the string of the revision that a copy of the `KeptRev`
+/// contains.
 fn copy_of_kept(alloc: Global, rev: &Rev) -> Option<String> {
     let Ok(kept) = KeptRev::keep(alloc, rev) else {
         return None;
