@@ -86,10 +86,11 @@ pub data ClosesRun (plan : Plan) (fault : Option PoolFault) (complete : Bool)
       → PutsEntry source after source' plan (Err why)
       → ClosesRun plan fault complete source before source' after (Err why)
 
--- The effect of ending a run of the pool, with facts about the run's workers. When a run ends, the target has grown
--- from the given target, and the windows of the run's session are pages of the source's feed. A worker halted only if
--- the gate (which decides whether a worker continues) allows the halt, or if a call of the worker failed. If no worker
--- stopped and all sent parcels were received, the session has read as many documents as the fetchers counted.
+-- The effect of ending a run of the pool, with facts about the run's workers. When a run ends, only calls for the run's
+-- session have changed the target `given`, and the windows of this session are pages of the source's feed. A worker
+-- halted only if the gate (which decides whether a worker continues) allows the halt, or if a call of the worker
+-- failed. If no worker stopped and all sent parcels were received, the session has read as many documents as the
+-- fetchers counted.
 pub record EndsRun {F : Type 0} (refuses : F → Document → Bool) (may_fill : Type 0) (may_stop : Place → Type 0)
     (plan : Plan) (source : PeerValue) (given : F × PeerValue) (counts : List ℕ) (source' after : PeerValue)
     (outcome : Result Report PoolFault) : Type 0 where
