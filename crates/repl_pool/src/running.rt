@@ -343,8 +343,8 @@ pub fn run<F: WriteFilter + Send + Sync, G: Gate + Sync, R: Threads + Wait + Syn
 /// (`Board::read`). Each writer updates the board through a separate seat (an access token for the board). Before a
 /// writer settles a parcel, the writer adds the number of documents in the parcel to the read counter of its seat.
 /// After the writer has settled the parcel, it adds the number of settled documents to its settled counter on the
-/// board. Only then the writer calls the gate (the `Gate` that decides whether a worker continues) at the place
-/// `Settled`. Updating and reading the board takes no lock.
+/// board. The writer calls the gate (the `Gate` that decides whether a worker continues) at the place `Settled` after
+/// it has updated the settled counter. Updating and reading the board takes no lock.
 ///
 /// The caller must give one seat for each worker of the plan. For every outcome, the call returns the seats in order,
 /// and no counter of a seat has decreased. If the run succeeds, the read counters of all seats together have risen by

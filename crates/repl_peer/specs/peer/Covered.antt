@@ -68,8 +68,9 @@ abbrev pub first_unknown : (Id → RevId → Bool) → List RowValue → Option 
 first_unknown known [] = None
 first_unknown known (row ∷ rows) = option_or (unknown_in known row) (first_unknown known rows)
 
--- The first leaf of the given feed rows that peer p does not cover. Peer p does not cover a leaf if the leaf is neither
--- in p's tree of the document, nor in an ancestry of the document in p's ledgers.
+-- The first leaf that peer p does not cover (a leaf that p has neither in a tree nor in a ledger), in the order of the
+-- given feed rows. Peer p does not cover a leaf if the leaf is neither in p's tree of the document, nor in an ancestry
+-- of the document in p's ledgers.
 abbrev pub first_uncovered : PeerValue → List RowValue → Option Leaf
 first_uncovered p rows = first_unknown (covers p) rows
 
