@@ -1,5 +1,5 @@
-//! Calls `replicate_alone`. After a failed allocation, an audit finds no uncovered leaf, and another replication
-//! succeeds.
+//! Calls `replicate_alone`. After a failed allocation, another replication succeeds, and an audit finds no uncovered
+//! leaf (a leaf of the source that the target neither stored nor rejected).
 use crate::peers::load;
 use anyhow::{Result, bail};
 use repl_log::Moment;
@@ -79,8 +79,8 @@ fn fill(alloc: Global, source: &mut Peer<Rules>) -> Option<()> {
     Some(())
 }
 
-/// Returns the recorded sequence of the last replication, the target's update sequence, and whether an audit finds no
-/// uncovered leaf.
+/// Returns the recorded sequence of the last replication, and the target's update sequence. Also returns whether an
+/// audit finds no uncovered leaf (a leaf of the source that the target neither stored nor rejected).
 fn ended(
     alloc: Global,
     source: &mut Peer<Rules>,

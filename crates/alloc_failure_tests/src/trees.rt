@@ -91,8 +91,8 @@ fn long(alloc: Global) -> Option<Ancestry> {
     }
 }
 
-/// Merges an optional ancestry. Returns whether the merge has the expected result, and no failed call of `merge`
-/// changed the tree.
+/// Merges an optional ancestry. Returns true if the merge has the expected result and no failed call of `merge` changed
+/// the tree, and otherwise false.
 fn merges(alloc: Global, tree: &mut Tree, given: Option<&Ancestry>, wanted: Merged) -> bool {
     let Some(given) = given else {
         return false;

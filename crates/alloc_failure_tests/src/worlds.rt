@@ -29,9 +29,9 @@ struct Seen {
 }
 
 /// Each row of the table has values that the test may observe after a step has failed, and the index of the step with
-/// which the test then continues. The step that settles a parcel has several rows, because the step may fail after it
-/// has settled a part of the parcel. The test does not observe the source's log and backups, because the test may
-/// repeat the steps that store a log entry or back up the source.
+/// which the test then continues. The table has several rows for the step that settles a parcel (a window's documents),
+/// because this step may fail after it has settled a part of the parcel. The test does not observe the source's log and
+/// backups, because the test may repeat the steps that store a log entry or back up the source.
 static BEFORE: &[(
     u64,
     u64,
@@ -203,7 +203,8 @@ fn left(seen: Seen) -> Option<usize> {
     None
 }
 
-/// Takes all steps of a list. If an allocation fails, the call continues with the step that `left` returns.
+/// Performs all steps of a list on a world (two peers and the messages between them). If an allocation fails, the call
+/// continues with the step that `left` returns.
 fn take(alloc: Global, world: &mut World<Rules>, steps: &[Step]) -> Option<()> {
     if world.run(alloc, steps).is_ok() {
         return Some(());
@@ -226,8 +227,9 @@ fn is_clean(alloc: Global, world: &World<Rules>) -> bool {
     }
 }
 
-/// Takes all steps, and returns the session's recorded sequence, the values observed after the last step, and whether
-/// an audit finds no uncovered leaf.
+/// Performs all steps of the test on a world (two peers and the messages between them). Returns the session's recorded
+/// sequence, and the values observed after the last step. Also returns whether an audit finds no uncovered leaf (a leaf
+/// of the source that the target neither stored nor rejected).
 fn ended(alloc: Global, world: &mut World<Rules>) -> Option<(u64, Seen, bool)> {
     let all = match steps(alloc) {
         Some(all) => Some(all),

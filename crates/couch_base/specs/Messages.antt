@@ -58,8 +58,8 @@ abbrev pub want_first : Id → List RevId → List WantedValue → List WantedVa
 want_first id [] others = others
 want_first id (r ∷ revs) others = record { id = id; revs = r ∷ revs } ∷ others
 
--- The requests for the leaves of the given feed rows that the trees of the given documents lack, in the order of the
--- rows.
+-- The requests for missing leaves: one request for each feed row that has missing leaves, in the order of the rows. A
+-- leaf of a row is missing if the given documents' tree of the row's document does not contain the leaf.
 abbrev pub wanted : List DocumentValue → List RowValue → List WantedValue
 wanted ds [] = []
 wanted ds (r ∷ rows) = want_first r.id (missing (tree_of ds r.id) r.leaves) (wanted ds rows)

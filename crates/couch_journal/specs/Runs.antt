@@ -78,9 +78,9 @@ RunsResponse response ended input text (Err fault) =
 
 -- ---- `seal`
 
--- The output and the outcome of the task `seal`. If a block can contain every line of the input, the block is sealed.
--- If a block cannot contain a line of the input, the outcome has the number, from 1, of the first such line, and the
--- output is empty.
+-- The output and the outcome of the task `seal`. If each single line of the input may be in a block, the output is the
+-- line that seals a block of all these lines. If a block cannot contain a line of the input, the outcome has the
+-- number, from 1, of the first such line, and the output is empty.
 abbrev pub Seals : List ℕ → List ℕ → List ℕ → List ℕ → Outcome → Type 0
 Seals chain seq input text outcomes.Done = IsSeal chain seq input text
 Seals chain seq input text (outcomes.Wrong line) =
@@ -98,8 +98,8 @@ RunsSeal chain seq ended input text (Err fault) = (text ≡ []) ⊎ (ended × Is
 
 -- The effect of running a task that reads its input line by line. The function `prints` gives the text that the task
 -- prints before the end of the input. The function `output` gives the complete output, and `outcome` gives the outcome.
--- After an error, the output is a prefix of the text for the first lines of the input. If the input was read to its
--- end, the output can be a prefix of the complete output.
+-- After an error, the output is a prefix of the text for the first lines of the input. If the error occurred after the
+-- end of the input was read, the output may instead be any prefix of the complete output.
 abbrev pub RunsLines : (List (List ℕ) → List ℕ) → (List (List ℕ) → List ℕ → List ℕ) → (List (List ℕ) → List ℕ → Outcome)
     → Type 0 → List ℕ → List ℕ → Result Outcome ScriptFault → Type 0
 RunsLines prints output outcome ended input text (Ok result) =

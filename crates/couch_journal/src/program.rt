@@ -69,8 +69,8 @@ fn flushed<W: ScriptWrite>(writer: &mut W, first: Ended) -> Ended
     }
 }
 
-/// Returns how a run ends whose last output could not be flushed: with `Write`, or with the run's earlier failure if
-/// the run had failed already.
+/// Returns how a run ends after the program failed to flush the run's last output. The run ends with `Write`, or with
+/// its earlier failure if it had failed before.
 fn unflushed(ended: Ended) -> Ended
     ensures { result ≡ unflushed ended }
 {

@@ -81,9 +81,9 @@ status_after (tell notice) = None
 status_after (done None counts recorded) = Some (if counts.doc_write_failures == 0 then 0 else 1)
 status_after (done (Some fault) counts recorded) = Some 3
 
--- The run of the relay has ended with the given status. If the last request was `done`, the status is the status of
--- `done`. If the last request was not `done`, the status is 3, and the input bytes `left` do not begin with a complete
--- response to the last request.
+-- The run of the relay has ended with the exit status `status`. If the relay's last request was `done`, the exit status
+-- is the one that `status_after` gives for this request. If the last request was not `done`, the exit status is 3, and
+-- the input bytes `left` do not begin with a complete response to the last request.
 abbrev pub EndsWith : Type 0 → RequestView → List ℕ → ℕ → Type 0
 EndsWith ended next left status =
     (status_after next ≡ Some status) ⊎ ((status_after next ≡ None) × NoFrame ended left × (status ≡ 3))

@@ -167,8 +167,9 @@ IsDrawnUntil Write form db input text = ⊤
 IsDrawnUntil Memory form db input text = BeginsPicture (AnswersFirst Pictures (first_sketch form db) input) text
 IsDrawnUntil Cut form db input text = BeginsPicture (AnswersCut Pictures (first_sketch form db) input) text
 
--- The call failed, and has written a prefix of a picture of its input, which consists of all remaining bytes of the
--- reader (`left`). The writer had accepted the bytes `held` before the call, and the bytes `held'` after the call.
+-- The call failed, and has written a prefix of a picture of its input. The input consists of all bytes `left` that the
+-- reader had not returned before the call. The writer had accepted the bytes `held` before the call, and the bytes
+-- `held'` after the call.
 pub record IsPicturedUntil (fault : ScriptFault) (form : Form) (db : Option (List ℕ)) (left held held' : Option (List ℕ)) : Type 0 where
   pub input : List ℕ
   pub gives : Gives left input

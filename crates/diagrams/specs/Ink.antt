@@ -139,7 +139,7 @@ caption columns.Read = codes "read"
 caption columns.Written = codes "written"
 caption columns.Failed = codes "failed"
 
--- The text for the kind of a line of numbers.
+-- The text with which a row of numbers in a picture begins: `compare`, `database` or `session`.
 abbrev pub table_text : Table → List ℕ
 table_text tables.Compared = codes "compare"
 table_text tables.Info = codes "database "

@@ -1,5 +1,5 @@
 //! Computes the columns of a diagram of a revision tree. A generation at which a row begins, ends or forks has a column
-//! of its own. All generations between two neighbouring columns for single generations share one column.
+//! of its own. Consecutive generations that have no column of their own share one column.
 
 use crate::ancestries::Ancestries;
 use crate::document::Leaf;

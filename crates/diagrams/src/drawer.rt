@@ -163,8 +163,8 @@ impl Drawer<'_> {
 
 /// Reads the output of a script, and draws the output as text or as one SVG picture (docs/PROFILE.md, "Pictures"). The
 /// picture shows the documents of `show` and `conflicts`, and the lines of `compare`. The picture also shows the
-/// numbers of `info`, the numbers of sessions, and logs. If the caller names the database, a text picture includes the
-/// commands that resolve conflicts.
+/// numbers in the output of `info` and `replicate`, and replication logs. If the caller names the database, a text
+/// picture includes the commands that resolve conflicts.
 ///
 /// Returns true if no allocation for a line failed.
 ///

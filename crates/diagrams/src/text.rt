@@ -148,7 +148,7 @@ fn draw_edge(
     mark(out, edge_of(leaf, row, cell.low))
 }
 
-/// Returns the edge to the column whose first generation is given.
+/// Returns the markup that draws a row's edge from the previous column to the column whose first generation is `low`.
 fn edge_of(leaf: &Leaf, row: &Row, low: u32) -> Markup {
     let before = low.saturating_sub(1);
     let open = row.is_open(before);

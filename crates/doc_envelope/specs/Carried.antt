@@ -15,7 +15,8 @@ pub record IsByte (nesting b : ℕ) : Type 0 where
   pub opens : (b == 123 || b == 91) ≡ false
   pub closes : (b == 125 || b == 93) ≡ false
 
--- In a text that is within n brackets, all strings are closed, and brackets are paired.
+-- A text in which all strings are closed and all brackets are paired. At the start of the text, n brackets are open. If
+-- n is 0, each comma of the text is in a string or in brackets.
 pub data Paired : ℕ → List ℕ → Type 0 where
   nothing : {n : ℕ} → Paired n []
   byte : {n b : ℕ} {t : List ℕ} → IsByte n b → Paired n t → Paired n (b ∷ t)

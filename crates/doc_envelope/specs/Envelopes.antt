@@ -15,7 +15,7 @@ whole_name = codes "\"whole\""
 
 -- ---- wrapping
 
--- Whether a member stays outside of the envelope's string.
+-- Whether a member of a document stays outside of the string in the envelope's member `whole`.
 abbrev pub stays : List ℕ → Bool
 stays m =
     has_name m (codes "\"_id\"") || has_name m (codes "\"_rev\"") || has_name m (codes "\"_revisions\"")
@@ -24,9 +24,8 @@ stays m =
 abbrev pub goes : List ℕ → Bool
 goes m = not (stays m)
 
--- The list of the one member of an envelope that holds the wrapped members, or the empty list if there are no wrapped
--- members. The value of the member `whole` is one string, which has the texts of the wrapped members with commas
--- between them.
+-- A list with one item, the member `whole` of an envelope, or the empty list if the envelope wraps no members. The
+-- value of the member `whole` is one string, which has the texts of the wrapped members with commas between them.
 abbrev pub whole_of : List (List ℕ) → List (List ℕ)
 whole_of [] = []
 whole_of (m ∷ ms) = (whole_name ++ 58 ∷ quoted (joined (m ∷ ms))) ∷ []

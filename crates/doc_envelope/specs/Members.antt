@@ -45,7 +45,8 @@ abbrev pub first_length : List ℕ → ℕ
 first_length t = length_in Outside 0 t
 
 -- The texts of an object's members, from the object's remaining text up to the bracket that closes the object. The text
--- of the first member begins with u, the part of this member that comes before the remaining text.
+-- of the first member begins with u. The text u is the part of the first member that precedes the object's remaining
+-- text.
 unfoldable pub members_in : Mode → ℕ → List ℕ → List ℕ → List (List ℕ)
 members_in m n u [] = cond (length u == 0) [] (u ∷ [])
 members_in m n u (b ∷ t) =

@@ -39,6 +39,7 @@ unfoldable pub all_taken : List ℕ → List (List ℕ) → Option (List ℕ)
 all_taken t [] = Some t
 all_taken t (m ∷ ms) = option_and_then (λ u. all_taken u ms) (taken_with t m)
 
--- The text of an object without its closing brace, after the wrapped members h are appended to t as one member.
+-- The text of an envelope without its closing brace. If the text h of the wrapped members is not empty, a member
+-- `whole` with the string h as its value is appended to the text t.
 abbrev pub with_held : List ℕ → List ℕ → List ℕ
 with_held t h = cond (length h == 0) t (added t (whole_name ++ 58 ∷ []) ++ quoted h)

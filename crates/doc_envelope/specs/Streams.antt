@@ -32,8 +32,8 @@ pub data Opens : List ℕ → List ℕ → Type 0 where
   open_later : {u : List ℕ} (m t : List ℕ) → first_length (m ++ 44 ∷ t) ≡ length m → Opens t u → Opens (m ++ 44 ∷ t) u
 
 -- The text f is the beginning of a document, and s is f without the runs that are not stored. The output for f begins
--- with F, and the output for s begins with S. `IsStart s S` states that a run may follow s, and that S is the beginning
--- of the output for each document that begins with s.
+-- with F, and the output for s begins with S. `IsStart s S` states two facts. Bytes of a string that are not stored (a
+-- run) may follow s, and the output for each document that begins with s begins with S.
 pub data Front (IsStart : List ℕ → List ℕ → Type 0) : List ℕ → List ℕ → List ℕ → List ℕ → Type 0 where
   start : {s S : List ℕ} → IsStart s S → Front IsStart s s S S
   run : {f s F S : List ℕ} → Front IsStart f s F S → IsStart s S → (r : List ℕ) → IsRun r

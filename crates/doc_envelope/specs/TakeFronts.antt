@@ -19,7 +19,8 @@ pub record AppendsOpen (q made S : List ℕ) : Type 0 where
 
 -- A run (bytes in a string that are not stored) may follow the beginning s of an envelope. The text s ends inside the
 -- string that is the value of the envelope's member `whole`. The text `made` is the part of the document that results
--- from the envelope's members before `whole`. The document of each envelope that begins with s begins with S.
+-- from the envelope's members before `whole`. If an envelope begins with the text s, the document that is unwrapped
+-- from the envelope begins with the text S.
 pub record IsTakeStart (s S : List ℕ) : Type 0 where
   pub may : MayStream s
   pub made : List ℕ

@@ -16,7 +16,7 @@ use crate::values::{is_envelope, quote, string_of};
 use json::Scratch;
 use std::alloc::{AllocError, Global};
 
-/// The name of an envelope's member whose string has the wrapped members.
+/// The name, with its quotation marks, of the member that contains all wrapped members of an envelope in one string.
 const WHOLE: &[u8] = b"\"whole\"";
 
 /// Wraps and unwraps documents, and reuses its buffers.
@@ -27,7 +27,7 @@ pub struct Envelope {
     text: Vec<u8>,
     /// The text of the members that the envelope stores in its string.
     held: Vec<u8>,
-    /// If `printed` is true, each member outside of the envelope's string has the text that the kit's JSON library
+    /// If `printed` is true, each member of the envelope other than `whole` has the text that the kit's JSON library
     /// prints for this member.
     printed: bool,
     scratch: Scratch,

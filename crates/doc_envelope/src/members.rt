@@ -45,8 +45,8 @@ fn nesting_behind(nesting: usize, byte: u8) -> usize
     }
 }
 
-/// Returns the position after a quotation mark, a control character or a backslash in a string. The call skips the byte
-/// after a backslash.
+/// Returns the position after the byte at position `at`, which is a quotation mark, a control character or a backslash
+/// in a string. If the byte at `at` is a backslash, the call also skips the next byte.
 #[inline(always)]
 fn past_byte(text: &[u8], at: usize) -> usize
     requires { at < length text.now }

@@ -33,7 +33,7 @@ impl Envelope {
     }
 
     /// Copies each complete member of an envelope. Returns the text of the incomplete last member. Returns `None` if
-    /// the envelope has a member `whole` that is not a string of members.
+    /// the envelope has a complete member `whole` whose value is not a string, or is a blank string.
     fn begin_unfold<'a>(&mut self, beginning: &'a [u8]) -> Result<Option<&'a [u8]>, AllocError>
         requires { 0 < length beginning.now }
         ensures { IfOk result (λ last. IfSome last (λ member. (t : List ℕ)

@@ -83,7 +83,7 @@ impl<'v> JsonValue<'v> for Value {
         has_fraction(self)
     }
 
-    // The call does not assume that any string of a `serde_json` value needs no escapes.
+    // The call ignores the argument `_plain`, because every string of a `serde_json` value may need escapes.
     fn push(&'v self, _plain: PlainTexts, out: &mut Vec<u8>) -> Result<(), AllocError> {
         push_value(self, out)
     }

@@ -34,7 +34,8 @@ right_end place line = sum_line (length place.held) (hash_at place line) (seq_of
 unfoldable pub end_in : Place → List ℕ → Option (List ℕ)
 end_in place line = if bytes_eq line (right_end place line) then Some (hash_at place line) else None
 
--- The place of a journal reader after a line that ends the current block, whose hash is `hash`, with a right checksum.
+-- The place of a journal reader after the line `line`, which ends the current block and has the right checksum. The
+-- hash of the current block is `hash`.
 abbrev pub closed : Place → List ℕ → List ℕ → Place
 closed place line hash = record {
   chain = hash;

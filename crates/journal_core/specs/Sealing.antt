@@ -65,8 +65,9 @@ pub record IsUnsealedOn (count : ℕ) (given : List ℕ → Type 0) (held held' 
   pub wrong : wrong_at is_sum lines rest ≡ Some count
   pub nothing : Appends held held' []
 
--- The result of sealing a block from an input that satisfies the predicate `given`. The last argument is `None` if the
--- block was sealed, and otherwise the number of lines before the first wrong line.
+-- The result of a call that reads the lines of a block as its input, and writes the line that ends (seals) the block.
+-- The input satisfies the predicate `given`. The last argument is `None` if the block was sealed, and otherwise the
+-- number of lines before the first wrong line.
 abbrev pub SealsOn : List ℕ → List ℕ → (List ℕ → Type 0) → Option (List ℕ) → Option (List ℕ) → Option ℕ → Type 0
 SealsOn chain seq given held held' None = IsSealedOn chain seq given held held'
 SealsOn chain seq given held held' (Some count) = IsUnsealedOn count given held held'

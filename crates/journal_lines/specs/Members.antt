@@ -32,6 +32,6 @@ number_of_digits ds = if are_digits ds && nat_lt (digits_value 10 ds) (2 ^ 64) t
 abbrev pub number_in : Json → Option ℕ
 number_in j = option_and_then (λ s. number_of_digits (without_leading_plus s)) (as_number j)
 
--- The number of a JSON object's member, if this number has no sign, point or exponent, and at most 64 bits.
+-- The value of a JSON object's member, if the value is a number below 2^64 that is written with digits only.
 abbrev pub number_at : List ℕ → Json → Option ℕ
 number_at name j = option_and_then number_in (get name j)

@@ -14,8 +14,8 @@ failed before number = option_or before (Some number)
 abbrev pub failed_end : Option ℕ → ℕ → List ℕ → Option ℕ
 failed_end before count rest = if nat_eq (length rest) 0 then before else failed before (count + 1)
 
--- A task's count of lines after the task checked the newest counted line. If this line is wrong, and no earlier line
--- was wrong, the count records this line as the first wrong line.
+-- A task's count of lines, after the task has checked the line that it counted last. If this line is wrong, and no
+-- earlier line was wrong, the count records this line as the first wrong line.
 abbrev pub counted_as : Bool → Count → Count
 counted_as wrong count = if wrong then record { lines = count.lines; wrong = failed count.wrong count.lines } else count
 

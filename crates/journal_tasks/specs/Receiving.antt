@@ -188,7 +188,7 @@ is_stored (lacks leaves) docs = false
 is_stored (leaf head) docs = is_some (docs head.0)
 is_stored wrong docs = false
 
--- Whether the list `wanted` says that revision `rev` was received.
+-- Whether the list `wanted` of requested revisions marks revision `rev` as received.
 abbrev pub is_marked : List WantedView → List ℕ → Bool
 is_marked wanted rev = list_any (λ item. item.1 && bytes_eq item.0 rev) wanted
 

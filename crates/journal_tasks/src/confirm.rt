@@ -183,8 +183,8 @@ impl LineTask for Confirm {
 }
 
 /// Reads a journal, finds the part that the journal's checksums confirm, and writes a report about this part. If the
-/// caller gives a sequence, the report ends at the last block of this sequence. If no block has the sequence, there is
-/// no output.
+/// caller gives a sequence, the report ends at the last block whose end line names this sequence. If no block has the
+/// sequence, there is no output.
 ///
 /// # Errors
 ///

@@ -64,7 +64,7 @@ pub fn run<R: Threads + Wait + Print + Eprint + Sync>(rt: &R, alloc: Global) -> 
     Ok(())
 }
 
-/// Writes one document for each order.
+/// Writes one document for each purchase order of the shop.
 fn write_orders(alloc: Global, shop: &mut Peer<Rules>) -> Result<()> {
     let value = Value::from_slice(alloc, br#"{"bread":1}"#)?;
     let body = read_body(alloc, &value)?;

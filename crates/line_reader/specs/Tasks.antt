@@ -57,7 +57,8 @@ HasDone steps ends start taken taken' held state held' = IsDoneOn steps ends sta
 
 -- The bytes `front` are a prefix of the text that a task in the given state appends next. The bytes `rest` are the part
 -- of the input that the task has not read yet. If the flag `at_end` is true, the task reads the input's end next. If
--- the flag `at_end` is false, the task reads a line next, or `front` is empty.
+-- the flag `at_end` is false, either `front` is empty, or the task reads a line next, and `front` is a prefix of the
+-- text for this line.
 abbrev pub IsFront : {S : Type 0} → Bool → Steps S → Steps S → S → List ℕ → List ℕ → Type 0
 IsFront {S} true steps ends state rest front =
     (back : List ℕ) × (new : S) × (has_line_end rest ≡ false) × ends state rest (front ++ back) new
@@ -84,8 +85,8 @@ pub record IsStoppedOn {S : Type 0} (at_end : Bool) (steps ends : Steps S) (star
   pub is_front : IsFront at_end steps ends state rest front
   pub written : Appends held held' (text ++ front)
 
--- An error stopped a task. The statement `ended` says that the input has ended. The writer may have a part of the
--- task's text for the input's end only if `ended` is true.
+-- An error stopped a task. The statement `ended` says that the input has ended. If `ended` is false, the writer has no
+-- part of the text that the task appends for the input's end.
 abbrev pub HasStopped : {S : Type 0} → Steps S → Steps S → S → Type 0 → Option (List ℕ) → Option (List ℕ) → Option (List ℕ)
     → Option (List ℕ) → Type 0
 HasStopped steps ends start ended taken taken' held held' =

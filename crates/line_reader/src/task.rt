@@ -11,8 +11,8 @@ pub trait LineTask {
     ghost steps: { Self → List ℕ → List ℕ → Self → Type 0 };
 
     // The relation that defines how the input's end changes the task's state, and which text the task appends for the
-    // input's end. The relation's arguments are the task's state before the end, the bytes after the last line end, the
-    // appended text, and the task's state after the end.
+    // input's end. The relation has four arguments: the task's state before the input's end is processed, the bytes
+    // after the last line end, the appended text, and the task's state afterwards.
     ghost ends: { Self → List ℕ → List ℕ → Self → Type 0 };
 
     /// Reads a line, given without its line end, and appends text.

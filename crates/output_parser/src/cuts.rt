@@ -45,7 +45,8 @@ pub fn before<'a>(text: &'a [u8], end: &[u8]) -> Option<&'a [u8]>
 }
 
 /// Splits a text that ends with a given name, then a space, and then a part without spaces. Returns the text before the
-/// name, and the part after the space. Returns `None` if the text does not end in this form.
+/// name, and the part without spaces that follows the name and the space. Returns `None` if the text does not end with
+/// the name, a space, and a part without spaces.
 pub fn cut_named<'a>(text: &'a [u8], name: &[u8]) -> Option<(&'a [u8], &'a [u8])>
     ensures some { IfSome result
         (λ x. (text.now ≡ x.0.now ++ (name.now ++ 32 ∷ x.1.now)) × (lacks 32 x.1.now ≡ true)) }

@@ -29,8 +29,8 @@ abbrev pub IsOneOf : Option Halt → Option Halt → Halt → Type 0
 IsOneOf a b h = (a ≡ Some h) ⊎ ((b ≡ Some h) ⊎ (h ≡ CountFull))
 
 module _ {S L : Type 0} where
-  -- After all workers have ended, the caller's thread has the complete pass of each channel, and each writer's part of
-  -- the ledger. A pass is the ghost right to use a channel, and has 1,024 parts.
+  -- After all workers have ended, the caller's thread has all 1,024 parts of each channel's pass (the ghost right to
+  -- use the channel), and each writer's part of the ledger.
   abbrev pub IsWhole : ℕ → Ended S L → Type 0
   IsWhole workers e = ((view e.windows).parts ≡ 1024) × ((view e.parcels).parts ≡ 1024) × (e.all.parts ≡ workers)
 

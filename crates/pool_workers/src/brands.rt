@@ -1,12 +1,13 @@
 //! Brands are type parameters with ghost members, which are values that exist only in proofs. The ghost members of a
 //! brand state facts about the source or the target of a run. The call of `repl_pool` that starts a run chooses the
-//! brands of the run.
+//! run's brands, and thereby fixes the source and the target to which contracts refer.
 //!
 //! If a lock protects a value, or a channel carries a value, contracts know only the invariant of the value's type. If
 //! a type has a brand as a type parameter, the invariant of the type may refer to the brand's ghost members.
 use std::marker::Brand;
 
-/// A brand with two ghost members: the source's database, and the plan by which the run reads this database.
+/// A brand (a type parameter for proofs) with two members that exist only in proofs: the source's database, and the
+/// plan by which the run reads this database.
 pub trait SourceBrand {
     ghost use Rattle.couch_base.specs.Database.{DatabaseValue};
     ghost use Rattle.repl_target.specs.declared.replication.Plan.{Plan};

@@ -27,7 +27,8 @@ pub fn end_windows<S: SourceBrand, R: Wait>(
     }
 }
 
-/// Sends `missing` end messages to the writers, each instead of the end message of a fetcher that was not started.
+/// For each of the `missing` fetchers that were not started, sends the end message that this fetcher would have sent to
+/// the writers.
 pub fn end_parcels<S: SourceBrand, R: Wait>(
     rt: &R,
     channels: &Channels<S>,

@@ -40,8 +40,8 @@ pub trait Gate {
     fn at<R: Wait>(&self, rt: &R, place: Place) -> Turn
         ensures { Stops result (may_stop self.now place) };
 
-    /// Whether the gate may block a worker until another worker has reached a place. If the gate never blocks a worker,
-    /// one thread may alternate between the work of two workers.
+    /// Whether a call of `at` may block a worker until another worker has reached a place (a stage of a window). If the
+    /// gate never blocks a worker, one thread may alternate between the work of two workers.
     fn may_block(&self) -> bool {
         true
     }

@@ -60,11 +60,11 @@ impl<
     G: Gate + Sync,
     R: Wait + Sync,
 > Context<'e, F, S, T, L, G, R> {
-    /// Starts a pair (a fetcher and a writer on one thread). The argument `others` is the number of pairs that already
-    /// run. If a thread cannot be created, the call sends an end message for each running pair and for the new pair.
-    /// The call then runs the new pair (a fetcher and a writer) on this thread until the fetcher receives an end
-    /// message. The call then returns an error that has the writer's seat (an access token to the progress board), if
-    /// the run has a progress board.
+    /// Starts a pair (a fetcher and a writer on one thread). The argument `others` is the number of pairs (each a
+    /// fetcher and a writer on one thread) that already run. If a thread cannot be created, the call sends an end
+    /// message for each running pair and for the new pair. The call then runs the new pair (a fetcher and a writer) on
+    /// this thread until the fetcher receives an end message. The call then returns an error that has the writer's seat
+    /// (an access token to the progress board), if the run has a progress board.
     fn start_pair<'s, E>(
         &'e self,
         scope: &Scope<'s, E>,
@@ -119,8 +119,9 @@ impl<
     /// Creates and starts a pair (a fetcher and a writer on one thread). The new pair gets three passes (ghost rights
     /// to use a channel): one for the channel of windows, and two for the channel of parcels. The new pair also gets a
     /// part of the ledger (a ghost count of settled documents). If the run has a progress board, the new pair gets the
-    /// last seat in `seats` (an access token to the progress board). The argument `others` is the number of pairs that
-    /// already run. If a thread cannot be created, the call returns `None`, and the seat stays in `seats`.
+    /// last seat in `seats` (an access token to the progress board). The argument `others` is the number of pairs (each
+    /// a fetcher and a writer on one thread) that already run. If a thread cannot be created, the call returns `None`,
+    /// and the seat stays in `seats`.
     fn spawn_pair<'s, E>(
         &'e self,
         scope: &Scope<'s, E>,
@@ -239,8 +240,9 @@ impl<
     G: Gate + Sync,
     R: Threads + Wait + Sync,
 > Context<'e, F, S, T, L, G, R> {
-    /// Joins the pairs' threads and collects their results. The call joins the threads in reverse order, and thereby
-    /// returns the writers' seats (access tokens to the progress board) in their original order.
+    /// Joins the pairs (threads that work as fetcher and writer) and collects the results of these threads. The call
+    /// joins the threads in reverse order, and thereby returns the writers' seats (access tokens to the progress board)
+    /// in their original order.
     fn join_pairs(
         &self,
         handles: Vec<PairHandle<'_, S, L, G>>,

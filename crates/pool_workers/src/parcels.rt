@@ -27,7 +27,7 @@ pub struct ParcelView {
 }
 
 /// The rule that the channel of parcels always satisfies. The sent parcels are exactly the received and the queued
-/// parcels. The rule compares parcels by their numbers and by their numbers of documents.
+/// parcels. The rule treats two parcels as equal if they have the same parcel number and the same number of documents.
 pub struct Conserved;
 
 impl<S: SourceBrand> Protocol<ParcelMessage<S>, ParcelView> for Conserved {

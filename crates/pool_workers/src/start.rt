@@ -39,7 +39,7 @@ impl<
     R: Wait + Sync,
 > Context<'e, F, S, T, L, G, R> {
     /// For each channel, splits a new pass (a ghost right to use the channel) off the given pass. The call then starts
-    /// a fetcher with both new passes.
+    /// a fetcher, which owns the new pass of each channel and may therefore use both channels.
     fn spawn_fetcher<'s, E>(
         &'e self,
         scope: &Scope<'s, E>,

@@ -73,7 +73,8 @@ abbrev pub SeatsAre : TableId → ℕ → ℕ → List BoardSeat → Type 0
 SeatsAre table k n seats = (i : ℕ) (d : BoardSeat) → i < length seats → IsSeat table k n i (slice_index_or seats i d)
 
 -- The seat s is seat number i of a new board b. The first seats of a new board are the workers' seats, ordered by the
--- workers' numbers, and the viewers' seats follow. No seat of a new board has added documents or loaded a counter.
+-- workers' numbers, and the viewers' seats follow. On a new board, no worker has added documents to its counters, and
+-- no seat (access to the board's counters) has loaded the value of a counter.
 pub record IsNew (b : Board) (i : ℕ) (s : BoardSeat) : Type 0 where
   pub came : CameWith b s
   pub works : s.works ≡ nat_lt i b.workers

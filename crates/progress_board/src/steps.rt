@@ -1,4 +1,5 @@
-//! The steps on the counters of a board. Each step is one atomic operation, and no step takes a lock.
+//! The steps on a progress board: functions that load a counter, add to a counter, or create a seat (access to the
+//! counters). Each load and each addition is one atomic operation, and no step takes a lock.
 ghost use Rattle.std.specs.Prelude.{◌≡◌, ◌+◌, ◌<◌, ◌≤◌, true, [], length, slice_index};
 ghost use Rattle.progress_board.specs.Rule.{most, added_read, added_settled, dealt, hired, viewer, SeesRead, SeesSettled};
 
@@ -8,7 +9,7 @@ use crate::rule::{
 use atomic_table::{Seat, Table};
 use std::alloc::Global;
 
-/// The counters of a board, two for each worker, with their rule.
+/// The table of a board's counters, two for each worker. The counters always satisfy the rule `BoardRule`.
 pub(crate) type BoardTable = Table<(), SeatView, u64, BoardRule, Global>;
 
 /// A seat's access to the counters of a board, with the facts that the seat has about the counters.
@@ -61,7 +62,7 @@ pub(crate) fn look_at_settled(
     table.shared.load::<LooksAtSettled>(place, workers + i)
 }
 
-/// Adds to the settled counter of the seat's worker.
+/// Adds `n` to the counter of settled documents of the worker to whom the seat belongs.
 pub(crate) fn add_to_settled(
     table: &BoardTable,
     place: &mut Place,

@@ -85,8 +85,8 @@ abbrev pub above_low_water : List FrontWindow → List FrontWindow
 above_low_water [] = []
 above_low_water (w ∷ ws) = if w.done then above_low_water ws else w ∷ ws
 
--- The number of maximal runs of adjacent done windows that begin in a list of windows. The Boolean `before` says
--- whether the window before the list is done.
+-- The number of maximal runs of adjacent done windows whose first window is in the given list of windows. The Boolean
+-- `before` says whether the window before the list is done.
 abbrev pub run_count : Bool → List FrontWindow → ℕ
 run_count before [] = 0
 run_count before (w ∷ ws) = (if w.done then (if before then 0 else 1) else 0) + run_count w.done ws

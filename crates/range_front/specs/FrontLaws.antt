@@ -47,7 +47,7 @@ start-le-low_water f front = rw low_in-is (from-le-low f.start f.windows front.r
 pub low_water-le-end_of : (f : FrontValue) → IsFront f → low_water f ≤ end_of f
 low_water-le-end_of f front = rw low_in-is (low-le-end f.start f.windows front.rises)
 
--- The low water is the front's start, or the end of a done window.
+-- The low water of a front (consecutive windows from the sequence `start` on) is `start`, or the end of a done window.
 pub low_water-is_end : (f : FrontValue) → (low_water f ≡ f.start) ⊎ ((lo : ℕ) × (is_done f lo (low_water f) ≡ true))
 low_water-is_end f = rw low_in-is (low-is-end f.start f.windows)
 

@@ -1,5 +1,5 @@
 -- Lemmas about fronts (lists of adjacent windows of sequences), proved by recursion over the list of windows. The
--- module `FrontLaws` states the lemmas of `WindowLaws` for complete fronts.
+-- module `FrontLaws` states the lemmas of `WindowLaws` for values of the type `FrontValue` instead of lists of windows.
 use Rattle.std.proofs.Common.{◌≡◌, ◌⊎◌, inl, inr, ℕ, ◌+◌, ◌<◌, ◌≤◌, Bool, true, false, cond, ◌&&◌, ◌||◌, eqb, List, [], ◌∷◌, ◌++◌, map, refl, sym, ap, ◌∙◌, arith}
 use Rattle.std.specs.List.{list_any, take_while}
 use Rattle.std.proofs.Math.Bool.{or_assoc}

@@ -112,14 +112,16 @@ pub record IsReady (h : List Exchange) (side : Side) (log : LogView) (s : Text) 
   pub ready : AreReady h target source s failures
   pub own : log ≡ log_of side target source
 
--- In the given exchange, the target stored its log with the recorded sequence s. If the exchange is a notice, the
--- statement `before` about the earlier exchanges must be true instead.
+-- In the given exchange, unless it is a notice, the target stored its log with the recorded sequence s. If the given
+-- exchange is a notice (the request `tell`, which prints a message), the statement `before` about the earlier exchanges
+-- is true.
 abbrev pub IsStoring : RequestView → ResponseView → Text → Type 0 → Type 0
 IsStoring (put_log Target log checkpoint) stored_response s before = checkpoint.seq ≡ s
 IsStoring (tell notice) r s before = before
 IsStoring q r s before = ⊥
 
--- The last exchange that is not a notice stored the target's log with the recorded sequence s.
+-- In the last exchange, apart from notices (requests `tell`, which print messages), the target stored its log with the
+-- recorded sequence s.
 abbrev pub IsStored : List Exchange → Text → Type 0
 IsStored [] s = ⊥
 IsStored (e ∷ h) s = IsStoring e.request e.response s (IsStored h s)

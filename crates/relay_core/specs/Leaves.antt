@@ -58,8 +58,8 @@ docs_where p (d ∷ ds) = doc_if_any d.0 (filter (λ r. p d.0 r) d.1) ++ docs_wh
 abbrev pub is_refusal : RowErrorView → Bool
 is_refusal row = bytes_eq row.error (codes "forbidden") || bytes_eq row.error (codes "unauthorized")
 
--- Whether an error row that names the given optional revision is about the given leaf. An error row without a revision
--- is about every leaf.
+-- Whether an error row is about the given leaf. An error row that names a revision is only about the leaf with this
+-- revision. An error row without a revision is about every leaf.
 abbrev pub is_about : Option Text → Text → Bool
 is_about None leaf = true
 is_about (Some rev) leaf = bytes_eq rev leaf

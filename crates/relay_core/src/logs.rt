@@ -89,8 +89,8 @@ fn checkpoint_of(alloc: Global, run: &Run) -> Result<Checkpoint, AllocError>
     })
 }
 
-/// Returns the given start of a run. If the run has no start yet, the call returns a start with the given date and
-/// sequence.
+/// Returns `start` (the date and the sequence at which a run started), if `start` is not `None`. If the run has no
+/// start yet, the call returns a start with the given date and sequence.
 fn start_of(
     alloc: Global,
     start: Option<Start>,

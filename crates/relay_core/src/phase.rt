@@ -162,8 +162,8 @@ impl Phase {
         ))
     }
 
-    /// Returns the next request of the run. As long as the caller has not printed all notices, the request is to print
-    /// the next notice.
+    /// Returns the next request of the run. As long as the caller has not printed all notices (messages for the user),
+    /// the returned request asks the caller to print the next notice.
     pub fn request(&self) -> Request<'_>
         ensures { request_view result ≡ asked_of self.now }
     {

@@ -10,7 +10,8 @@ pub enum LedgerRow {
     /// The write filter refuses the document. The variant names the document's newest revision.
     Denied { rev: Rev },
     /// The ancestry of the document contradicts the tree, because a revision has different parents in the ancestry and
-    /// in the tree. The variant names the newest revision with different parents, and both parents.
+    /// in the tree. The variant names the newest revision whose parent in the ancestry differs from its parent in the
+    /// tree, and names both parents.
     Contradicted { rev: Rev, known: Rev, given: Rev },
 }
 

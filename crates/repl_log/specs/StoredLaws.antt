@@ -68,8 +68,8 @@ module _ {X V : Type 0} (value : X → V) (session : V → SessionId) where
 
   -- ---- lookups
 
-  -- The value in contracts of an optional stored value, or `None` if the stored value is absent or its value in
-  -- contracts does not pass the test q.
+  -- The value that contracts use for an optional stored value. The result is `None` if no value is stored, or if the
+  -- value that contracts use does not pass the test q.
   abbrev pub chosen : (V → Bool) → Option X → Option V
   chosen q None = None
   chosen q (Some x) = if q (value x) then Some (value x) else None

@@ -168,8 +168,8 @@ impl From<BaseFault> for Cause {
     }
 }
 
-/// Converts an error of `Front::finish` to the cause for which settling stopped. The window was checked before the call
-/// of `finish`.
+/// Converts an error of `Front::finish` to the cause with which settling a parcel (a window's documents) stops. The
+/// window was checked before the call of `finish`.
 impl From<FrontFault> for Cause {
     ghost from_gives = { λ fault cause. cause ≡ cause_by_front fault };
 

@@ -339,8 +339,8 @@ impl<F: WriteFilter> Peer<F> {
         ensures err { OnErr result (self.new.1 ≡ self.old.1) }
         ensures law { Lawful (F.refuses self.new.0) self.new.1 }
     {
-        // The code uses the contract of `hi`, not its result. The contract of `hi` states that the window satisfies the
-        // invariant of windows.
+        // The code uses only the contract of `hi`, and ignores the number that `hi` returns. The contract of `hi`
+        // states that the window satisfies the invariant of windows.
         let _hi = ready.window().hi();
         self.sessions.append(id, ready)
     }
@@ -359,10 +359,10 @@ impl<F: WriteFilter> Peer<F> {
     /// - `ForeignParcel`: the session has no window with the parcel's bounds, or a document has no row in that window.
     /// - `AlreadyDone`: the window is already done.
     /// - `CountFull`: a count of the session would exceed 9,007,199,254,740,991.
-    /// - `Stopped`: a document could not get a sequence, or an allocation failed. The first `settled` documents are
-    ///   settled, and `rest` has the remaining documents.
-    /// - `Uncovered`: a leaf of the window's rows is not covered, and the error names the first such leaf. All
-    ///   documents are settled.
+    /// - `Stopped`: a document could not get a sequence, or an allocation failed. The first `settled` documents of the
+    ///   parcel are settled, and the error's field `rest` has the remaining documents.
+    /// - `Uncovered`: the target neither stored nor rejected (covered) a leaf of the window's rows, and the error names
+    ///   the first such leaf. All documents are settled.
     pub fn settle(&mut self, id: SessionId, parcel: Parcel) -> Result<Settled, TargetFault>
         ensures settles { SettleGives (F.refuses self.old.0) self.old.1 id parcel result self.new.1 }
         ensures filter { self.new.0 ≡ self.old.0 }

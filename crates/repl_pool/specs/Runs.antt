@@ -86,10 +86,11 @@ pub data ClosesRun (plan : Plan) (fault : Option PoolFault) (complete : Bool)
       → PutsEntry source after source' plan (Err why)
       → ClosesRun plan fault complete source before source' after (Err why)
 
--- The effect of ending a run of the pool, with facts about the run's workers. When a run ends, the target has grown
--- from the given target, and the windows of the run's session are pages of the source's feed. A worker halted only if
--- the gate (which decides whether a worker continues) allows the halt, or if a call of the worker failed. If no worker
--- stopped and all sent parcels were received, the session has read as many documents as the fetchers counted.
+-- The effect of ending a run of the pool, with facts about the run's workers. When a run ends, only calls for the run's
+-- session have changed the target `given`, and the windows of this session are pages of the source's feed. A worker
+-- halted only if the gate (which decides whether a worker continues) allows the halt, or if a call of the worker
+-- failed. If no worker stopped and all sent parcels were received, the session has read as many documents as the
+-- fetchers counted.
 pub record EndsRun {F : Type 0} (refuses : F → Document → Bool) (may_fill : Type 0) (may_stop : Place → Type 0)
     (plan : Plan) (source : PeerValue) (given : F × PeerValue) (counts : List ℕ) (source' after : PeerValue)
     (outcome : Result Report PoolFault) : Type 0 where
@@ -163,7 +164,8 @@ pub record EndsWell (source target target' : PeerValue) (plan : Plan) (n : ℕ) 
   pub copied : IsEmpty target → report.counts.failures ≡ 0 → SameDocuments plan.chosen source.db target'.db
   pub sum : n ≡ report.counts.read
 
--- The filter is unchanged. The peer is unchanged, or the plan's session has begun and the peer has grown since then.
+-- The filter is unchanged. Either the peer is unchanged, or the plan's session has begun at the peer, and calls for
+-- this session (`IsGrown`) have changed the peer further.
 abbrev pub LeftPeer : {F : Type 0} → (F → Document → Bool) → PeerValue → F × PeerValue → Plan → F × PeerValue → Type 0
 LeftPeer refuses source given plan now = (now.0 ≡ given.0) × IsLeft (refuses given.0) source given.1 plan now.1
 
@@ -180,8 +182,8 @@ pub record RunsOn {F : Type 0} (refuses : F → Document → Bool) (may_fill : T
   -- At the source, a run changes only the outgoing logs.
   pub filter : source'.0 ≡ source.0
   pub log : source'.1 ≡ record source.1 { outgoing = source'.1.outgoing }
-  -- The target of a run is unchanged, or the session has begun and the target has grown by calls with messages of the
-  -- source.
+  -- Either the run leaves its target unchanged, or the run has changed its target only by beginning the session and by
+  -- calls with messages of the source.
   pub grown : LeftPeer refuses source.1 target plan target'
   -- A run's target keeps all sessions and revisions, as `IsLaterPeer` says. For every selection and all backups of the
   -- source, the two peers are consistent after the run if they were consistent before.

@@ -41,11 +41,11 @@ pub struct SyncRan<F: WriteFilter> {
 ///
 /// A successful call has all guarantees of `sync_alone`. Suppose that the peers are consistent in both directions
 /// (docs/PROFILE.md, "Tied peers"). Then, after a successful call, each side has the other side's leaves of every
-/// document that both plans select, if neither side has refused the document. If the two trees of a document of this
-/// kind agreed before the call and had complete histories, both sides have the same document after the call. If the
-/// peers are consistent in both directions, they stay consistent for every result of the call. `a` stays consistent
-/// with third peers whose UUID differs from `b`'s UUID, and `b` stays consistent with third peers whose UUID differs
-/// from `a`'s UUID.
+/// document that both plans select, if neither side has refused the document. Suppose also that the trees of such a
+/// document (selected by both plans, rejected by neither side) agreed before the call and had complete histories. `a`
+/// and `b` then have the same document after the successful call. If the peers are consistent in both directions, they
+/// stay consistent for every result of the call. `a` stays consistent with third peers whose UUID differs from `b`'s
+/// UUID, and `b` stays consistent with third peers whose UUID differs from `a`'s UUID.
 ///
 /// The call blocks until both runs end. The contract does not guarantee that the two runs end.
 pub fn sync<F: WriteFilter + Send + Sync, G: Gate + Sync, R: Threads + Wait + Sync>(

@@ -73,12 +73,13 @@ impl Plan {
 /// has the source's revisions, parents and contents of leaves of each selected document. The source's database never
 /// changes.
 ///
-/// Consistent peers (docs/PROFILE.md, "Tied peers") stay consistent for every selection and every result, so an audit
-/// after the call finds no uncovered leaf. If the peers are consistent and the call succeeds, each leaf of the source's
-/// complete selected feed is covered, including leaves below the start. A third peer that was consistent with the
-/// source or the target stays consistent with that peer, under two conditions (`KeepsOthersTied`). If the third peer is
-/// another source of the target, the third peer's UUID must not be the source's UUID. If the third peer is another
-/// target of the source, the third peer's UUID must not be the target's UUID.
+/// Consistent peers (docs/PROFILE.md, "Tied peers") stay consistent for every selection and every result. An audit of
+/// consistent peers after the call therefore finds no uncovered leaf (a leaf of the source that the target neither
+/// stored nor rejected). If the peers are consistent and the call succeeds, each leaf of the source's complete selected
+/// feed is covered, including leaves below the start. A third peer that was consistent with the source or the target
+/// stays consistent with that peer, under two conditions (`KeepsOthersTied`). If the third peer is another source of
+/// the target, the third peer's UUID must not be the source's UUID. If the third peer is another target of the source,
+/// the third peer's UUID must not be the target's UUID.
 ///
 /// # Errors
 ///

@@ -88,7 +88,7 @@ settles refuses w session None = w
 settles refuses w session (Some p) = record w { target = after_settle refuses w.target session p.1 }
 
 -- The world after a step settled documents of a parcel, and then ran out of memory. The step has settled the first n
--- documents of the parcel, or fewer if settling without failed allocations settles fewer.
+-- documents of the parcel, but never more documents than the step would settle without a failed allocation.
 abbrev pub stops : (Document → Bool) → WorldValue → SessionId → ℕ → Option (ℕ × ParcelValue) → WorldValue
 stops refuses w session n None = w
 stops refuses w session n (Some p) = record w { target = after_some refuses w.target session p.1 n }
@@ -129,8 +129,9 @@ reads_log w = record w { bag = with_log w.bag (log_of_source w) }
 abbrev pub agreed : WorldValue → List EntryValue → Option (SessionId × ℕ)
 agreed w log = common log (target_log w.target (rep_of w))
 
--- The parameters of a new session of the target. A new session begins at the common checkpoint of the target's log and
--- a log in the bag. The session has the life that is stored with the log in the bag.
+-- The parameters of a new session of the target. A new session begins at the common checkpoint of two logs: the
+-- target's log, and the log `log` from the message bag (the messages in transit). The session has the life (incarnation
+-- of the source's database) that the message bag stores with the log `log`.
 abbrev pub beginning_in : WorldValue → ℕ → ℕ × List EntryValue → Beginning
 beginning_in w goal log = record {
   scope = record { rep = rep_of w; life = log.0; base = base_at (agreed w log.1); goal = goal };

@@ -49,8 +49,8 @@ pub record HasWritten (s : State) (written : List ℕ) : Type 0 where
 
 -- In the parser's state s, the parser has just read the end of a document. The text `written` is the output for
 -- `cut.full`, a long beginning of the document. After `cut.full`, the document has a member that its envelope stores
--- outside of the member `whole` (`_id`, `_rev`, `_revisions` or `_deleted`). Therefore the output for the document
--- without its runs does not begin with `cut.front`, the output for the beginning without its runs.
+-- outside of the member `whole` (`_id`, `_rev`, `_revisions` or `_deleted`). The output for the stored text (the
+-- document without its runs) does not begin with `cut.front`, the output for the beginning of this text.
 pub record IsLate (s : State) (written : List ℕ) : Type 0 where
   pub cut : Cut
   pub rest : List ℕ

@@ -80,7 +80,7 @@ mutual
     no_items : {d : ℕ} (s : List ℕ) → d < 8 → Spaces s → IsList wanted d (91 ∷ (s ++ 93 ∷ [])) []
     with_items : {d : ℕ} (s : List ℕ) {t : List ℕ} {ps : List Piece} → d < 8 → Spaces s → IsItems wanted (d + 1) t ps → IsList wanted d (91 ∷ (s ++ t)) ps
 
-  -- The items of a list, from an object to the closing bracket of the list.
+  -- The rest of a list, from the beginning of one of its items (an object) to the closing bracket of the list.
   pub data IsItems (wanted : Wanted) : ℕ → List ℕ → List Piece → Type 0 where
     last_item : {d : ℕ} {o : List ℕ} (s : List ℕ) {ps : List Piece} → IsObject wanted d o ps → Spaces s → IsItems wanted d (o ++ (s ++ 93 ∷ [])) ps
     item : {d : ℕ} {o : List ℕ} (s s' : List ℕ) {more : List ℕ} {ps qs : List Piece} → IsObject wanted d o ps → Spaces s → Spaces s' → IsItems wanted d more qs

@@ -67,16 +67,18 @@ pub data IsWithin (name : Name) : Place → Type 0 where
   in_string : IsWithin name (Quoted name)
   in_escape : IsWithin name (Escaped name)
 
--- The parser is in a document, which is the value of the given name, and may skip storing the next run of the document.
+-- The parser is in a document that it found by a member name with the meaning `name`. The parser need not store the
+-- document's next run (bytes in a string).
 pub record InDocument (name : Name) (s : State) : Type 0 where
   pub document : is_document name ≡ true
   pub object : slice_index s.text 0 ≡ 123
   pub nested : is_plain name ≡ true → (s.nesting == 0) ≡ false
   pub found : s.found ≡ Nothing
 
--- In a document, the state of a parser that stores each byte (full state), and of a parser that does not store the runs
--- (stored state). The states differ only in their texts. The texts differ only in the document's beginning (`cut`),
--- from which the stored text lacks the runs.
+-- Two states of a parser in the same document. The state `full` is the state of a parser that stores each byte. The
+-- state `stored` is the state of a parser that does not store runs (parts of strings). The states differ only in their
+-- texts. The two texts differ only in the document's beginning: the text of `stored` does not have the runs that the
+-- beginning `cut.full` has.
 pub record Mirrors (cut : Cut) (name : Name) (full stored : State) : Type 0 where
   pub place : IsWithin name stored.place
   pub same : full ≡ record stored { text = full.text }
@@ -90,8 +92,8 @@ pub record Mirrors (cut : Cut) (name : Name) (full stored : State) : Type 0 wher
   pub stored_length : long ≤ length cut.stored
   pub log : is_plain name ≡ true → is_log cut.stored ≡ false
 
--- The full state (with each byte) and the stored state (without the runs) of a parser that has rejected a byte of a
--- document after the document's output has begun.
+-- Two states after a parser has rejected a byte of a document whose output has begun: `full` if the parser stored each
+-- byte, and `stored` if the parser did not store runs (parts of strings).
 pub record Rejected (cut : Cut) (full stored : State) : Type 0 where
   pub like : Like full stored
   pub refused : is_refused stored.place ≡ true

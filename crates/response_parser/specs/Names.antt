@@ -35,7 +35,7 @@ leaf_name inner entry t =
     (cond (bytes_eq t (codes "\"changes\"")) Changes
     (cond (bytes_eq t (codes "\"last_seq\"")) Last Other)))))
 
--- The meaning of a name t if the changes of a script are requested.
+-- The meaning of a member's name t if the caller requests the changes that are listed in the output of a script.
 abbrev pub change_name : Bool → List ℕ → Name
 change_name first t = cond (first && bytes_eq t (codes "\"_id\"")) Plain Foreign
 

@@ -105,7 +105,8 @@ impl Reading {
         self.close_object();
     }
 
-    /// Opens the entry of a document in a `_revs_diff` response, in which the member's name is the document's id.
+    /// Opens the entry of a document in a `_revs_diff` response. The entry is the value of a member whose name is the
+    /// document's id.
     pub(crate) fn open_entry(&mut self)
         ensures { state_of self.new ≡ entry_opened (state_of self.old) }
     {

@@ -156,8 +156,8 @@ impl Reading {
     }
 }
 
-/// Returns the number of bytes before the first quotation mark, backslash or control character. Returns 0 if one of the
-/// bytes before that character is not printable ASCII.
+/// Returns the number of bytes before the first quotation mark, backslash or control character. Returns 0 if a byte
+/// before the first quotation mark, backslash or control character is not printable ASCII.
 fn run_length(bytes: &[u8]) -> usize
     ensures within { result ≤ length bytes.now }
     ensures run { IsRun (take result bytes.now) }

@@ -131,7 +131,7 @@ impl Reading {
         Ok(())
     }
 
-    /// Returns what the name of the current member means for its value.
+    /// Returns the meaning of the current member's name, which determines how the parser reads the member's value.
     fn name(&self) -> Name
         ensures { result ≡ name_in (state_of self.now) }
     {
@@ -198,7 +198,8 @@ impl Reading {
         self.in_begun(byte)
     }
 
-    /// Reads the first byte of a member's value, as the meaning of the member's name requires.
+    /// Reads the first byte of a member's value. How the parser reads this byte depends on the meaning of the member's
+    /// name.
     fn in_begun(&mut self, byte: u8) -> Result<(), AllocError>
         ensures { OnOk result (state_of self.new ≡ begun_in (state_of self.old) byte) }
     {

@@ -17,7 +17,8 @@ impl Reading {
         self.in_sign(byte)
     }
 
-    /// Reads another of the first bytes of input that may be multipart or begin with a byte order mark.
+    /// Reads a further byte at the beginning of the input, as long as the input may be multipart or begin with a byte
+    /// order mark.
     pub(crate) fn in_sign(&mut self, byte: u8) -> Result<(), AllocError>
         ensures { OnOk result (state_of self.new ≡ in_sign (state_of self.old) byte) }
     {

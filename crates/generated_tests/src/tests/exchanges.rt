@@ -142,7 +142,8 @@ fn brings_leaves(
 }
 
 /// Asserts that the parcel's gone revisions from index `from` on are those requested revisions that `tree` lacks.
-/// Returns the index after the last compared gone revision.
+/// Returns the index after the last compared item in the parcel's list of gone revisions (requested revisions that the
+/// source does not have).
 fn loses(
     rt: &impl Abort,
     parcel: &Parcel,

@@ -42,7 +42,8 @@ fn at<'a>(rt: &impl Abort, net: &'a Net<Rules>, place: usize) -> &'a Peer<Rules>
     net.peer(place).expect(rt, "a peer")
 }
 
-/// Asserts that no audit finds an uncovered leaf.
+/// Asserts that no audit of two peers finds an uncovered leaf (a leaf of the source that the target neither stored nor
+/// rejected).
 fn assert_clean(rt: &impl Abort, alloc: Global, net: &Net<Rules>) {
     for one in 0..PEERS {
         for other in 0..PEERS {
@@ -166,8 +167,8 @@ fn assert_led(
     }
 }
 
-/// Replicates along random hops. Returns whether chains of hops led from every peer to every other peer. If chains lead
-/// from every peer to every other peer, all peers must have the same documents.
+/// Replicates along random hops. Returns whether chains of hops led from every peer to every other peer. If chains of
+/// hops (replications) lead from every peer to every other peer, all peers must have the same documents.
 fn along_chance(
     rt: &impl Abort,
     alloc: Global,

@@ -24,7 +24,8 @@ use std::thread::Threads;
 /// the target refuses no document.
 const CHOICES: u32 = 8;
 
-/// The indices in `Bench::picked` of all documents, the first selection and the second selection.
+/// Three indices in the list `Bench::picked`: `WHOLE` is the index for all documents, `FIRST` for the first selection,
+/// and `SECOND` for the second selection.
 const WHOLE: usize = 0;
 
 const FIRST: usize = 1;
@@ -63,8 +64,8 @@ static CALLS: &[Call] = &[
     Call::Replicate(SOURCE, WHOLE),
 ];
 
-/// A peer and the peer's plain model. For all documents and for each selection, `carried` is the peer's sequence up to
-/// which the target has replicated the documents.
+/// A peer and the peer's plain model. The array `carried` has the three sequences of the peer up to which the target
+/// has replicated all documents, the first selection, and the second selection.
 #[derive(Drop)]
 struct Side {
     peer: Peer<Rules>,

@@ -42,7 +42,8 @@ pub(crate) fn next_above(documents: &Documents, seq: u64, goal: u64) -> Option<(
 pub(crate) type Masks = [u32; IDS];
 
 /// A ledger row: the document's number, the document's newest revision, and the child, known parent and given parent of
-/// a contradiction. If the filter refuses the document, the child and both parents are `PLACES`.
+/// a contradiction. If the filter refuses the document, there is no contradiction, and the last three items of the row
+/// are `PLACES`.
 pub(crate) type Row = [usize; 5];
 
 /// A peer's plain model: each document's tree and latest sequence, and the revisions of refused documents.

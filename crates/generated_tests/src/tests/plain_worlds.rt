@@ -653,7 +653,8 @@ impl PlainWorld {
         self.copies.push(copied).expect(rt, "memory");
     }
 
-    /// Restores the source from a backup. The new life is greater than the lives of the source and of the backup.
+    /// Restores the source from a backup. The restored source has a new life (incarnation number), which is greater
+    /// than the lives of the source and of the backup.
     pub(crate) fn restore(&mut self, rt: &impl Abort, alloc: Global, copy: usize) {
         if let Some(copied) = self.copies.get(copy) {
             if self.windows.len() > 0 || self.entries.len() > 0 || self.logs.len() > 0 {

@@ -421,7 +421,8 @@ fn compare_ledger(
     holds(rt, has, "a ledger");
 }
 
-/// Asserts that an audit of the replicated documents finds no uncovered leaf.
+/// Asserts that an audit of the replicated documents finds no uncovered leaf (a leaf of the source that the target
+/// neither stored nor rejected).
 fn is_clean(
     rt: &impl Abort,
     alloc: Global,

@@ -115,8 +115,9 @@ fn other_life_refused(rt: HostRuntime) {
         (Call::PutEntry(SOURCE, REP, S1, 1), "OtherLife { now: 1 }"),
         (Call::SourceLog(SOURCE, REP), "1 at 3;"),
         (Call::Page(SOURCE, 3, 4), "3 to 4: 4 e 1-a;"),
-        // The window begins below 6, the end of the second session's windows, but `Append` first reports that the
-        // window is from another life. The third session does not exist yet.
+        // The window is from another life (incarnation of the source's database), and begins below 6, the end of the
+        // second session's windows. Of these two faults, `Append` reports the other life. The third session does not
+        // exist yet.
         (Call::Append(TARGET, S2, SECOND), "OtherLife { now: 0 }"),
         (Call::Append(TARGET, S3, SECOND), "NoSuchSession"),
         (

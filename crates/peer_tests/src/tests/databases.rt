@@ -21,8 +21,8 @@ pub(crate) enum Call<'a> {
     /// Edit a document, given the document's id, the parent revision (an empty string for none), the deleted flag, the
     /// body, and the number of the local write.
     Edit(usize, &'a str, &'a str, bool, &'a str, u64),
-    /// Copy a database, and store the copy as the bench's next database. The copy has the given life, or the database's
-    /// life if no life is given.
+    /// Copy a database, and store the copy as the bench's next database. The copy has the given life (incarnation
+    /// number), or the life of the copied database if no life is given.
     Copy(usize, Option<u64>),
     /// Read the UUID and the update sequence.
     Numbers(usize),
@@ -182,11 +182,11 @@ fn make_at(alloc: Global, databases: &mut Vec<Database>, uuid: u128, seq: u64) -
     }
 }
 
-/// The greatest life: 2^53 - 1.
+/// The greatest life (incarnation number) of a database: 2^53 - 1.
 const LAST_LIFE: u64 = 9_007_199_254_740_991;
 
-/// Copies a database, and stores the copy as the bench's next database. The copy has the given life, or the database's
-/// life if no life is given.
+/// Copies a database, and stores the copy as the bench's next database. The copy has the given life (incarnation
+/// number), or the life of the copied database if no life is given.
 fn copy(
     alloc: Global,
     databases: &mut Vec<Database>,
@@ -202,7 +202,8 @@ fn copy(
     made_text(alloc, databases.push(copy).ok())
 }
 
-/// Copies a database. The copy has the given life, or the database's life if no life is given.
+/// Copies a database. The copy has the given life (incarnation number), or the life of the copied database if no life
+/// is given.
 fn copied(alloc: Global, db: &Database, life: Option<u64>) -> Option<Database> {
     match life {
         Some(life) if life <= LAST_LIFE => db.copy_in(alloc, life).ok(),

@@ -135,8 +135,8 @@ pub(crate) type Rows = &'static [(Call<'static>, &'static str)];
 
 /// Lists of calls that are performed in order.
 ///
-/// A test names one static with all lists of the test. If a test named several lists, the prover would process each of
-/// these lists separately.
+/// A test refers to a single static variable, which contains all lists of the test. If a test named several lists, the
+/// prover would process each of these lists separately.
 pub(crate) type Lists = &'static [Rows];
 
 /// A bench: peers, backups of the peers, and the values that were read and fetched from the peers.
@@ -421,7 +421,7 @@ fn append(
     }
 }
 
-/// Settles a copy of a parcel in a session, if the parcel exists.
+/// Calls `Peer::settle` for a session with a copy of a parcel (fetched documents), if the parcel exists.
 fn settle(
     alloc: Global,
     peer: &mut Peer<Rules>,

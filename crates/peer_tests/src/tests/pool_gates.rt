@@ -108,8 +108,8 @@ impl Gate for HoldsFetched {
 struct StopsOnce {
     kind: u64,
     window: u64,
-    /// The value that `Gate::may_block` returns, although the gate never blocks a worker. If `may_block` returns true,
-    /// each worker is a separate thread, even if there are few workers.
+    /// The value that `Gate::may_block` returns. The gate never blocks a worker, even if `may_block` returns true. If
+    /// `may_block` returns true, each worker is a separate thread, even if there are few workers.
     may_block: bool,
     stopped: AtomicBool,
 }
@@ -232,7 +232,7 @@ fn fetched_is_counted_where_a_run_stops(rt: HostRuntime) {
     }
 }
 
-/// For each of the stages 0 to 4, in order, the text with which the result of a run that stops at this stage begins.
+/// If a run stops at stage n of a window, the text of the run's result begins with item n of `STOPPED`, counted from 0.
 static STOPPED: [&str; 5] = [
     "Halted(Took(",
     "Halted(Asked(",

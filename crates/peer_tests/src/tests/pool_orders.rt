@@ -32,8 +32,8 @@ const fn in_windows_of(batch: u64) -> How {
 struct Counts {
     places: Vec<AtomicU64>,
     strays: AtomicU64,
-    /// The value that `Gate::may_block` returns, although the gate never blocks a worker. If `may_block` returns true,
-    /// each worker is a separate thread, even if there are few workers.
+    /// The value that `Gate::may_block` returns. The gate never blocks a worker, even if `may_block` returns true. If
+    /// `may_block` returns true, each worker is a separate thread, even if there are few workers.
     may_block: bool,
 }
 
@@ -125,8 +125,8 @@ fn each_place_once_and_in_order(rt: HostRuntime) {
 /// A stage of a window: the number of the stage, from 0, and the number of the window.
 type Spot = (u64, u64);
 
-/// Pairs of stages, each with the number of a window. A worker at the first stage of a pair waits until a worker has
-/// reached the second stage.
+/// A list of pairs, in which each item of a pair is a stage of a window. A worker at the first stage of a pair waits
+/// until a worker has reached the second stage.
 type Holds = &'static [(Spot, Spot)];
 
 /// Returns the bit that represents a stage of one of the first twelve windows.

@@ -28,7 +28,7 @@ const TWO_ROWS: How = How {
     stop_after: None,
 };
 
-/// The number of windows of a run, and the number of fetchers of a run. A run has the same number of writers.
+/// The number of windows of a run, and the number of fetchers of a run. A run has as many writers as fetchers.
 const WINDOWS: u64 = 3;
 
 const WORKERS: u64 = 2;
@@ -158,7 +158,7 @@ impl Turns {
         (goes, chose)
     }
 
-    /// Notes that a worker has come to a place.
+    /// Records that a worker has called the gate at the place `here` (a stage of a window).
     fn come(&mut self, here: u64) {
         self.held |= here;
         self.naps = 0;
@@ -200,7 +200,7 @@ impl Drawn {
         }
     }
 
-    /// Notes that a worker has come to a place.
+    /// Records that a worker has called the gate at the place `here` (a stage of a window).
     fn come<R: Wait>(&self, rt: &R, here: u64) {
         self.turns.lock(rt).come(here);
     }
@@ -288,13 +288,13 @@ fn different(sorted: &[u64]) -> u64 {
     found
 }
 
-/// The number of seeds of one test. The number is small because each test must end within a minute, even on a busy
-/// machine.
+/// The number of seeds of one test. The number of seeds is small because each test must end within a minute, even on a
+/// busy machine.
 const SEEDS: u64 = 250;
 
 /// Performs one run for each of `SEEDS` seeds, and asserts that the runs have more than `SEEDS` / 2 different orders.
-// The order of a run affects only the target's sequences. Apart from the target's sequences, all values that the test
-// reads after a run are the same for every order.
+// The order in which the gate releases the workers of a run affects only the target's sequences. Apart from the
+// target's sequences, all values that the test reads after a run are the same for every order.
 fn run_orders<R: Abort + Threads + Wait + Sync>(rt: &R, alloc: Global, first: u64) {
     let mut orders = Vec::new(alloc);
     for number in 0..SEEDS {

@@ -179,7 +179,8 @@ impl Bench {
         self.take_back(rt, source, target, ran)
     }
 
-    /// Replicates one peer into another, on a board with a seat for each worker.
+    /// Replicates one peer into another. Each worker counts its documents in a seat (a worker's row of counters) on the
+    /// progress board `board`.
     pub(crate) fn replicate_on<G: Gate + Sync, R: Abort + Threads + Wait + Sync>(
         &mut self,
         rt: &R,

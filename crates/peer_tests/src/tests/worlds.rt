@@ -53,7 +53,7 @@ pub(crate) enum Question<'a> {
     Entry(SessionId),
     /// The log that a side (source or target) has of the replication.
     Log(u128),
-    /// The tree of a document at a side.
+    /// The revision tree of a document at the source (side 1) or at the target (side 2).
     Tree(u128, &'a str),
     /// The numbers of windows, requests, parcels, entries and logs in the message bag (the messages in transit).
     Sizes,
@@ -210,7 +210,7 @@ fn life_text(alloc: Global, world: &World<Rules>) -> Option<String> {
     format!(in alloc; "{life}").ok()
 }
 
-/// Returns the result of a question.
+/// Returns, as text, the value in a world that a `Question` asks for.
 fn answer(alloc: Global, world: &World<Rules>, question: Question) -> Option<String> {
     match question {
         Question::Common => agreed(alloc, world.source(), world.target(), &REP),

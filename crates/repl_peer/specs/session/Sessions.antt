@@ -109,8 +109,8 @@ next_in w s =
     if w.lo == end_of s.front then (if nat_lt s.goal w.hi then Err faults.PastGoal else Ok tt)
     else Err (faults.Gap (end_of s.front))
 
--- The result of appending window w to session s, if no allocation fails. The window's life must be the session's life
--- (see docs/PROFILE.md, "Backup and restore").
+-- The result of appending window w to session s, if no allocation fails. Window w and session s must have the same
+-- life, the incarnation number of the source's database (see docs/PROFILE.md, "Backup and restore").
 abbrev pub append_in : WindowValue → SessionValue → Result (Unit {0}) TargetFault
 append_in w s = if w.life == s.life then next_in w s else Err (faults.OtherLife s.life)
 

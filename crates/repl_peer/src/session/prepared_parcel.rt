@@ -12,8 +12,8 @@ use rev_tree::SessionId;
 use std::alloc::{AllocError, Global};
 use std::marker::Model;
 
-/// A parcel, optionally with the trees and arrivals of its documents. The trees and arrivals are built before the peer
-/// is locked.
+/// A parcel, optionally with the trees and the arrivals (a session's records of merged documents) of its documents. The
+/// trees and arrivals are built before the peer is locked.
 pub struct PreparedParcel {
     parcel: Parcel,
     arrivals: Vec<Written>,

@@ -21,7 +21,8 @@ enum Call {
 /// `false`.
 type Row = (Call, &'static str, Option<&'static str>);
 
-/// Asserts that each call returns `true` and makes the row's output, or returns `false` if the row has no output.
+/// Asserts for each row of a table that the row's call returns `true` and builds the row's expected output. If a row
+/// has no expected output, the row's call must return `false`.
 fn run(rt: &impl Abort, envelope: &mut Envelope, rows: &[Row]) {
     for (i, (call, text, wanted)) in rows.iter().enumerate() {
         let returned = match *call {
