@@ -70,9 +70,9 @@ pub record HoldNone (source target : PeerValue) (chosen : Choice) : Type 0 where
 
 -- ---- guarantees of tied worlds
 
--- If the session has the parcel's window, and the window and the source's database have the same life, settling the
--- parcel never returns `Uncovered`. The window and the source's database have the same life if the database was not
--- restored after it produced the window, because each restore raises the life.
+-- Settling a parcel of the bag never returns `Uncovered` if the session has the parcel's window and this window has the
+-- source's current life. A window has the source's current life if the source's database was not restored after it
+-- produced the window, because each restore raises the life.
 abbrev pub NeverUncovered : (Document → Bool) → WorldValue → Type 0
 NeverUncovered refuses w =
     (p : ℕ × ParcelValue) → Among p w.bag.parcels

@@ -111,7 +111,7 @@ pub data Tracks (s r : State) (front : List ℕ) (at : ℕ) (w : Words) (part : 
 
 -- The parser read the list `bytes`, and the items that end in `bytes` were written. Before the parser read `bytes`, the
 -- beginning `part` of an unfinished item had already been written. After the parser has read `bytes`, the beginning
--- `part'` of the next unfinished item has already been written.
+-- `part'` of the item that is unfinished after `bytes` (perhaps still the same item) has already been written.
 pub record Feeds (s : State) (w : Words) (part bytes : List ℕ) (r' : State) (front' : List ℕ) (at' : ℕ) (w' : Words) (held held' : Option (List ℕ)) : Type 0 where
   pub part' : List ℕ
   pub tracks : Tracks (after s bytes) r' front' at' w' part'

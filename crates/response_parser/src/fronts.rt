@@ -90,8 +90,8 @@ impl Front {
     }
 
     /// Whether a run of `count` bytes (string bytes that are passed on without being stored) may follow the stored
-    /// text. If the stored text has grown since the front (the beginning of the document's output) was built, the call
-    /// builds the front again, within the limits of `RUN` and `SHARE`.
+    /// text. The front is the beginning of the document's output. If the front is empty, or the stored text has grown
+    /// since the front was built, the call builds the front, within the limits of `RUN` and `SHARE`.
     fn may_pass(&mut self, reading: &mut Reading, count: usize) -> Result<bool, AllocError>
         ensures same { OnOk result (state_of reading.new ≡ state_of reading.old) }
         ensures none { IfOk result (λ ok. ok ≡ false → (front_of self.new ≡ front_of self.old)

@@ -1,5 +1,5 @@
--- Defines ancestries, as specified in docs/PROFILE.md, "Ancestries". An ancestry is the value of a document's member
--- `_revisions` (CouchDB, "Replication Protocol").
+-- Defines ancestries, as specified in docs/PROFILE.md, "Ancestries". A document's member `_revisions` (CouchDB,
+-- "Replication Protocol") represents an ancestry.
 use Rattle.std.specs.Prelude.{◌≡◌, ℕ, ◌+◌, ◌-◌, ◌<◌, Bool, List, [], ◌∷◌, length, Option, Some, None, Result, Ok, Err, if◌then◌else◌, nat_lt, ◌==◌}
 use Rattle.std.specs.List.{AllByRecursion, list_any}
 use Rattle.std.specs.Ordering.{eq_by_cmp}

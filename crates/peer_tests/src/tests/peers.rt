@@ -68,8 +68,8 @@ pub(crate) enum Call<'a> {
     Node(usize, &'a str, &'a str),
     /// Read the filter's verdict on a document.
     Verdict(usize, &'a str),
-    /// Read whether a peer covers a revision of a document: the revision is in the peer's tree, or in the ancestry of a
-    /// document in a session's ledger.
+    /// Read whether a peer covers a revision of a document. A peer covers a revision that is in the peer's tree of the
+    /// document, or in an ancestry of the same document in a session's ledger.
     Covered(usize, &'a str, &'a str),
     /// Read a page of at most 500 rows, above a sequence and up to a goal, and store the page as the next window.
     Page(usize, u64, u64),
