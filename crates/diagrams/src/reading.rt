@@ -46,6 +46,7 @@ pub fn next(
         Told::Row(row) => Ok((None, Some(Whole::Row(row)))),
         Told::Log(log) => Ok((None, Some(Whole::Log(log)))),
         Told::Other => Ok((None, None)),
+        Told::Unknown => Ok((None, None)),
     }
 }
 

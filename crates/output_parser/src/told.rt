@@ -23,8 +23,10 @@ pub enum Told {
     Row(Row),
     /// A log.
     Log(Log),
-    /// Any other line.
+    /// Any other line that `couch_replicate` prints.
     Other,
+    /// A line that `couch_replicate` does not print.
+    Unknown,
 }
 
 /// A line of `compare` about a document.
