@@ -167,8 +167,8 @@ fn loses(
     at
 }
 
-/// Asserts that a parcel has exactly the documents and the gone revisions that the reference returns for the request.
-/// Returns the parcel's number of documents.
+/// Asserts that a parcel has exactly the documents and the gone (requested but missing) revisions that the reference
+/// model `plain` has for the request `asked`. Returns the parcel's number of documents.
 fn brings(
     rt: &impl Abort,
     alloc: Global,
@@ -231,8 +231,9 @@ fn exchange(
     docs
 }
 
-/// Performs requests and fetches between a source and a target. The function is separate from its caller, because the
-/// caller's proof grows with each variable that is live in the caller.
+/// Creates a target, and compares the target's requests and the fetched documents with the reference models
+/// (`exchange`). The function is separate from its caller, because the caller's proof grows with each variable that is
+/// live in the caller.
 fn with_target(rt: &impl Abort, alloc: Global, seed: u64, source: &mut Side) -> usize {
     let mut rng = ChaCha8Rng::seed_from_u64(seed);
     let mut target = Side::new(alloc, 2);

@@ -76,7 +76,7 @@ pub(crate) fn ancestry(rt: &impl Abort, alloc: Global, places: &[usize]) -> Ance
     Ancestry::from_parts(alloc, start as u32, &sigs).expect(rt, "an ancestry")
 }
 
-/// Asserts that a revision has the same content in the tree and in the reference.
+/// Asserts that a revision has the same content in the tree and in the reference model (`Reference`).
 fn agree_on_content(rt: &impl Abort, tree: &Tree, reference: &Reference, one: Rev, place: usize) {
     match (tree.content(one), reference.content(place)) {
         (Some(content), Some((deleted, body))) => {
@@ -97,7 +97,7 @@ fn assert_are(rt: &impl Abort, answer: Result<Revs, AllocError>, places: &[usize
     holds(rt, are(rt, revs.as_slice(), places), "revisions");
 }
 
-/// Asserts that a revision has the same ancestry in the tree and in the reference.
+/// Asserts that a revision has the same ancestry in the tree and in the reference model (`Reference`).
 fn agree_on_walk(
     rt: &impl Abort,
     alloc: Global,
@@ -112,7 +112,8 @@ fn agree_on_walk(
     }
 }
 
-/// Asserts that a list of revisions is the ancestry of a revision in the reference.
+/// Asserts that the list `walk` of revisions is the ancestry that the reference model has for the revision at index
+/// `place`.
 fn is_walk(rt: &impl Abort, alloc: Global, reference: &Reference, place: usize, walk: &[Rev]) {
     let places = reference.ancestry(alloc, place).expect(rt, "memory");
     holds(
@@ -122,8 +123,8 @@ fn is_walk(rt: &impl Abort, alloc: Global, reference: &Reference, place: usize, 
     );
 }
 
-/// Whether a tree and the reference agree about whether a revision exists, what its origin is, and whether it is a
-/// leaf.
+/// Whether a tree and the reference model (`Reference`) agree about whether a revision exists, what its origin is, and
+/// whether it is a leaf.
 fn has_as(tree: &Tree, reference: &Reference, one: Rev, place: usize) -> bool {
     let stands = tree.has(one) == reference.has(place);
     let is_leaf = tree.is_leaf(one) == reference.is_leaf(place);

@@ -282,8 +282,9 @@ impl Sessions {
         }
     }
 
-    /// Stores a window in a session. The window must have the session's life, begin at the end of the session's last
-    /// window, and end at or below the session's goal.
+    /// Stores a window in a session if the window fits the session. The window must have the same life (a number that
+    /// changes when the source is restored) as the session. The window must begin at the end of the session's last
+    /// window, and must not end above the session's goal (the last sequence that the session reads).
     fn append(&mut self, rt: &impl Abort, session: u128, rows: Rows) {
         let Some(held) = self.get(session) else {
             return;
@@ -384,7 +385,8 @@ fn settle(
     }
 }
 
-/// Settles those leaves of a document whose ancestries have a requested revision.
+/// Settles (stores or rejects) leaves of one document at the target. A leaf is settled if its ancestry has a requested
+/// revision.
 fn settle_document(
     rt: &impl Abort,
     alloc: Global,
