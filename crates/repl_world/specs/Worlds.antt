@@ -87,8 +87,9 @@ abbrev pub settles : (Document → Bool) → WorldValue → SessionId → Option
 settles refuses w session None = w
 settles refuses w session (Some p) = record w { target = after_settle refuses w.target session p.1 }
 
--- The world after a step settled documents of a parcel, and then ran out of memory. The step has settled the first n
--- documents of the parcel, but never more documents than the step would settle without a failed allocation.
+-- The world after a step settled documents of a parcel, and then ran out of memory. The settled documents are the first
+-- documents of the parcel. The number of settled documents is the lesser of n and the number that the step would settle
+-- if no allocation failed.
 abbrev pub stops : (Document → Bool) → WorldValue → SessionId → ℕ → Option (ℕ × ParcelValue) → WorldValue
 stops refuses w session n None = w
 stops refuses w session n (Some p) = record w { target = after_some refuses w.target session p.1 n }
@@ -97,14 +98,14 @@ stops refuses w session n (Some p) = record w { target = after_some refuses w.ta
 abbrev pub entry_in : PeerValue → SessionId → Result EntryValue TargetFault
 entry_in p session = session_answer p session (λ (s : SessionValue). Ok (entry_of s))
 
--- The world after a session of the target is recorded and the session's new entry is added to the bag.
+-- The world after a session of the target is recorded and the session's new entry is added to the bag of messages.
 abbrev pub records : WorldValue → SessionId → ℕ → WorldValue
 records w session at =
     let now = after_record w.target session at in
     record w { target = now; bag = told w.bag (entry_in now session) }
 
--- The world after a session of the target is concluded. If concluding a session succeeds, the session's entry is added
--- to the bag.
+-- The world after the target was asked to conclude a session. If the target concludes the session without an error, the
+-- session's log entry is added to the bag of messages.
 abbrev pub concludes : WorldValue → SessionId → ℕ → WorldValue
 concludes w session at =
     let now = after_conclude w.target session at in
