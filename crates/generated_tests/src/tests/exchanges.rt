@@ -43,7 +43,8 @@ impl Side {
     }
 }
 
-/// Returns the index of a revision in the reference, or `PLACES` if the reference cannot represent the revision.
+/// Returns the index of a revision in the reference model, or `PLACES` if the reference model cannot represent the
+/// revision.
 pub(crate) fn place_of(rt: &impl Abort, wanted: Rev) -> usize {
     for place in 0..PLACES {
         if rev(rt, place) == wanted {
@@ -193,8 +194,8 @@ fn brings(
     docs
 }
 
-/// Asserts that a side's database and the side's reference return the same documents for a request. Returns the number
-/// of documents that the database returned.
+/// Asserts that a side's database and the side's reference model return the same documents for a request. Returns the
+/// number of documents that the database returned.
 fn answers(rt: &impl Abort, alloc: Global, side: &Side, asked: &Asked) -> usize {
     let parcel = side.db.open_revs(alloc, asked).expect(rt, "memory");
     brings(rt, alloc, &side.plain, asked, &parcel)
@@ -210,8 +211,8 @@ fn asked(rt: &impl Abort, alloc: Global, source: &Side, target: &Side) -> Asked 
     target.db.revs_diff(alloc, &window).expect(rt, "memory")
 }
 
-/// Puts random documents on both sides, and compares requests and parcels with the reference. Returns the number of
-/// documents that the source returned.
+/// Puts random documents on both sides, and compares requests and parcels with the reference model. Returns the number
+/// of documents that the source returned.
 fn exchange(
     rt: &impl Abort,
     alloc: Global,

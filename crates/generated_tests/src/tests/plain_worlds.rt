@@ -8,8 +8,8 @@ use crate::tests::reference::mask_of;
 use std::alloc::Global;
 use std::process::Abort;
 
-/// The number of the document that is edited and never loaded. In the reference, the edited document's revision of
-/// generation g has the index 3 (g - 1).
+/// The number of the document that is edited and never loaded. In the reference model, the edited document's revision
+/// of generation g has the index 3 (g - 1).
 pub(crate) const EDITED: usize = 4;
 
 /// A window, or a request for leaves of a window: the life (incarnation) of the source's database, the bounds, and the

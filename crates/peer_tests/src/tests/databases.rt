@@ -373,7 +373,7 @@ fn edit(
     edit_text(alloc, answer)
 }
 
-/// Reads the tree of a document.
+/// Returns, as a string, the revision tree of a document in the database.
 pub(crate) fn tree(alloc: Global, db: &Database, id: &str) -> Option<String> {
     let Ok(id) = DocId::parse(alloc, id) else {
         return None;
@@ -384,7 +384,7 @@ pub(crate) fn tree(alloc: Global, db: &Database, id: &str) -> Option<String> {
     }
 }
 
-/// Reads a revision of a document.
+/// Returns, as a string, the node of a revision in a document's revision tree.
 pub(crate) fn node(alloc: Global, db: &Database, id: &str, text: &str) -> Option<String> {
     let Ok(id) = DocId::parse(alloc, id) else {
         return None;
@@ -395,7 +395,7 @@ pub(crate) fn node(alloc: Global, db: &Database, id: &str, text: &str) -> Option
     }
 }
 
-/// Reads the document at a revision.
+/// Returns, as a string, the document that the database has at a given revision.
 fn document(alloc: Global, db: &Database, id: &str, text: &str) -> Option<String> {
     let Ok(id) = DocId::parse(alloc, id) else {
         return None;
