@@ -45,8 +45,8 @@ IsOneOf among peers place id parent deleted body =
     (p : PeerValue) → IsAt peers place p → (e : RevId × Option RevId) → edited p.db id parent deleted body ≡ Ok e
     → among (record { before = e.1; deleted = deleted; body = body }) ≡ true
 
--- Suppose that only edits of a set made a document. If no two different edits of the set have the same MD5, the
--- document's trees at all peers agree and have complete histories.
+-- Suppose that a document was made only by edits of a given set (`AllMadeBy`). If no two different edits of the set
+-- have the same MD5, the document's trees at all peers agree and have complete histories.
 abbrev pub MadeAgree : List PeerValue → Type 0
 MadeAgree peers =
     (among : EditValue → Bool) → HaveNoCollision among → (id : Id) → AllMadeBy among peers id

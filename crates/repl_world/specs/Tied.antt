@@ -20,8 +20,8 @@ use Rattle.repl_peer.specs.declared.fault.TargetFault.{TargetFault}
 use Rattle.repl_world.specs.Bags.{IsBag}
 use Rattle.repl_world.specs.Worlds.{WorldValue, rep_of}
 
--- The invariants of three parts of world w: the source's database, the target, and the bag. The types of the three
--- parts guarantee the invariants.
+-- The invariants of three parts of world w: the source's database, the target, and the bag of messages. The types of
+-- the three parts guarantee the invariants.
 pub record IsWorld (refuses : Document → Bool) (w : WorldValue) : Type 0 where
   pub source : LawfulDatabase w.source.db
   pub target : Lawful refuses w.target

@@ -3,12 +3,12 @@
 --
 -- A replication exchanges messages: pages of the source's feed, requests for what the target lacks, parcels of
 -- documents, and log entries. Messages between two databases may be late, repeated, reordered or lost. A world has two
--- peers, and every message that was sent and not lost. A step is one call on a peer, with any message of the bag. A
--- message stays in the bag when a step uses it, so later steps can use the message in any order. A world has backups of
--- the source. Restoring a backup raises the life (a number) of the source's database. A crash deletes all messages, but
--- does not change the peers and the backups. Every exchange of messages between the two databases is a list of steps,
--- even if other clients write to the databases during the exchange. A statement that is true after every list of steps
--- is therefore true after every exchange of messages.
+-- peers, and every message that was sent and not lost. A step is one call on a peer, with any message of the bag of
+-- messages. A message stays in the bag of messages when a step uses it, so later steps can use the message in any
+-- order. A world has backups of the source. Restoring a backup raises the life (a number) of the source's database. A
+-- crash deletes all messages, but does not change the peers and the backups. Every exchange of messages between the two
+-- databases is a list of steps, even if other clients write to the databases during the exchange. A statement that is
+-- true after every list of steps is therefore true after every exchange of messages.
 use Rattle.std.specs.Prelude.{◌≡◌, ◌⊎◌, ℕ, ◌==◌, ◌≤◌, List, [], ◌∷◌, ◌++◌, Bool, if◌then◌else◌, Option, Some, None, IfSome, Result, Ok, Err, take, slice_get}
 use Rattle.rev_tree.specs.declared.origin.SessionId.{SessionId}
 use Rattle.doc_json.specs.Document.{Document}
@@ -126,7 +126,7 @@ log_of_source w = (w.source.db.life, source_log w.source (rep_of w))
 abbrev pub reads_log : WorldValue → WorldValue
 reads_log w = record w { bag = with_log w.bag (log_of_source w) }
 
--- The common checkpoint that a log in the bag and the target's log have, if there is one.
+-- The common checkpoint that a log in the bag of messages and the target's log have, if there is one.
 abbrev pub agreed : WorldValue → List EntryValue → Option (SessionId × ℕ)
 agreed w log = common log (target_log w.target (rep_of w))
 

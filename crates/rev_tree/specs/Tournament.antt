@@ -73,7 +73,7 @@ pub record IsWinnerOf (nodes : List NodeValue) (one other w : ℕ) : Type 0 wher
   pub first : IsBefore (entry nodes w) (entry nodes one)
   pub second : IsBefore (entry nodes w) (entry nodes other)
 
--- The node at index `place` is a leaf, and no leaf goes before this node in the winner's order.
+-- The node at index `place` is a leaf, and no leaf comes before this node in the winner's order.
 pub record IsBestLeaf (nodes : List NodeValue) (place : ℕ) : Type 0 where
   pub node : NodeValue
   pub at : slice_get nodes place ≡ Some node
