@@ -61,25 +61,26 @@ pub data IsNext : Option Document → Told → Option Document → Option Whole 
   -- A line of a script's output that begins a document.
   opened : {old : Option Document} {id : String Global} {count : ℕ} {d : Document} → Holds d (string_bytes id) [] → d.count ≡ count
       → IsNext old (told.Document id count) (Some d) None
-  -- A line of a script's output with a leaf that is not the last leaf of the open document.
+  -- A line of a script's output that prints a leaf of the open (incomplete) document, but not the document's last leaf.
   more : {d e : Document} {live : Bool} {revs : Vec RevId Global} (r : RevId) → head_of revs.items ≡ Some r
       → Holds e (string_bytes d.id) (with_leaf (states d) r live) → e.count ≡ d.count → vec_len e.leaves < e.count
       → IsNext (Some d) (told.Leaf live revs) (Some e) None
-  -- A line of a script's output with the last leaf of the open document, which is then complete.
+  -- A line of a script's output that prints the last leaf of the open document, which is then complete.
   whole : {d e : Document} {live : Bool} {revs : Vec RevId Global} (r : RevId) → head_of revs.items ≡ Some r
       → Holds e (string_bytes d.id) (with_leaf (states d) r live) → e.count ≡ d.count → e.count ≤ vec_len e.leaves
       → IsNext (Some d) (told.Leaf live revs) None (Some (wholes.Tree e))
-  -- A line of a script's output with a leaf, if no document is open.
+  -- A line of a script's output that prints a leaf while no document is open (incomplete).
   loose : {live : Bool} {revs : Vec RevId Global} → IsNext None (told.Leaf live revs) None None
-  -- A line of a script's output with a leaf and an empty list of revisions, which parsing never produces.
+  -- A line of a script's output that prints a leaf with an empty list of revisions. Parsing never produces a leaf with
+  -- an empty list of revisions.
   empty : {old : Option Document} {live : Bool} {revs : Vec RevId Global} → head_of revs.items ≡ None → IsNext old (told.Leaf live revs) None None
-  -- A line of a script's output with a document and its live leaves.
+  -- A line of a script's output that prints a document's id and its live leaves.
   conflict : {old : Option Document} {id : String Global} {revs : Vec RevId Global} {e : Document} → Holds e (string_bytes id) (with_all [] revs.items)
       → IsNext old (told.Conflict id revs) None (Some (wholes.Tree e))
   -- A line of `compare` about a document, or a line of numbers, in a script's output.
   found : {old : Option Document} {f : Found} → IsNext old (told.Found f) None (Some (wholes.Found f))
   row : {old : Option Document} {r : Row} → IsNext old (told.Row r) None (Some (wholes.Row r))
-  -- A line of a script's output with a log.
+  -- A line of a script's output that prints a replication log.
   log : {old : Option Document} {l : Log} → IsNext old (told.Log l) None (Some (wholes.Log l))
   -- A line of a script's output that no picture shows, or a line that is not output of a script.
   other : {old : Option Document} → IsNext old told.Other None None
@@ -137,7 +138,8 @@ Pictures old line (Err name) new =
 
 -- ---- everything from a reader
 
--- The state of drawing before the first line of the input, which has no open document.
+-- The state (`Sketch`) of the conversion of a script's output into a picture, before the conversion reads its first
+-- line. The state `first_sketch` has no open (incomplete) document.
 abbrev pub first_sketch : Form → Option (List ℕ) → Sketch
 first_sketch form db = record { form = form; db = db; begun = None; tally = none_counted }
 
@@ -169,8 +171,9 @@ pub record IsPictured (form : Form) (db : Option (List ℕ)) (outcome : Outcome)
 abbrev pub BeginsPicture : (List ℕ → Type 0) → List ℕ → Type 0
 BeginsPicture holds text = (head : List ℕ) × Draws [] head [] × (drawn : List ℕ) × holds drawn × (text ≡ head ++ drawn)
 
--- The text of a picture that is written before an error. After the errors `Read` and `Memory`, each drawing is
--- complete. After the error `Cut`, the text ends within a drawing.
+-- The given text is the part of a picture that was written before the given error occurred. After the errors `Read` and
+-- `Memory`, each drawing in the text is complete. After the error `Cut`, the text ends within a drawing. After the
+-- error `Write`, the text may be any text.
 abbrev pub IsDrawnUntil : ScriptFault → Form → Option (List ℕ) → List ℕ → List ℕ → Type 0
 IsDrawnUntil Read form db input text = BeginsPicture (AnswersFirst Pictures (first_sketch form db) input) text
 IsDrawnUntil Write form db input text = ⊤

@@ -33,8 +33,8 @@ read_on seats = total (λ (s : BoardSeat). s.read) seats
 abbrev pub settled_on : List BoardSeat → ℕ
 settled_on seats = total (λ (s : BoardSeat). s.settled) seats
 
--- From the seats `given` to the seats `now`, the sum of the read counters and the sum of the settled counters each rise
--- by n.
+-- The sum of the read counters of the seats `now` is n more than the sum of the read counters of the seats `given`. The
+-- sum of the settled counters of the seats `now` is n more than the sum of the settled counters of the seats `given`.
 abbrev pub HaveRisenBy : ℕ → List BoardSeat → List BoardSeat → Type 0
 HaveRisenBy n given now = (read_on now ≡ read_on given + n) × (settled_on now ≡ settled_on given + n)
 

@@ -206,7 +206,8 @@ impl<F: WriteFilter> Peer<F> {
         self.db.page(alloc, since, goal, limit, chosen)
     }
 
-    /// Returns a page of the changes feed, for arguments that `page` accepts (`Database::page_due`).
+    /// Returns a page of the changes feed by calling `Database::page_due`. The caller guarantees that `limit` is above
+    /// 0, `since` is below `goal`, and `goal` is at most the update sequence.
     pub fn page_due(
         &self,
         alloc: Global,

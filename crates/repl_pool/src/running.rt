@@ -36,8 +36,9 @@ pub struct Ran<F: WriteFilter> {
     pub target: Peer<F>,
     /// The number of documents that each fetcher counted. The list is empty if no fetcher was started.
     pub fetched: Vec<u64>,
-    /// The board seats that the caller gave to the writers, in the given order. The list is empty after `run`, because
-    /// `run` has no board.
+    /// The board seats (access tokens for the progress board) that the caller gave to the writers, in the given order.
+    /// The list of seats is empty after a call of `run`, because a caller of `run` passes no progress board and no
+    /// seats.
     pub seats: Vec<BoardSeat>,
     /// The report of the plan's session, or the error.
     pub outcome: Result<Report, PoolFault>,

@@ -25,8 +25,8 @@ const RUN: usize = 1_024;
 const SHARE: u64 = 4;
 
 /// The beginning of the current document's output, called the front. The caller writes the front (the beginning of a
-/// document's output) before the document ends. The front is empty if the caller has not yet written a byte of the
-/// current document's output.
+/// document's output) before the document ends. The front, which is the beginning of a document's output, is empty if
+/// the caller has not yet written a byte of the current document's output.
 #[derive(Drop)]
 pub struct Front {
     text: Vec<u8>,
@@ -141,8 +141,8 @@ impl Reading {
         }
     }
 
-    /// Builds the beginning of the current document's output. Returns `false` if no run (string bytes that are passed
-    /// on without being stored) may follow the stored text.
+    /// Builds the beginning of the current document's output. Returns `true` only if a run (string bytes that are
+    /// passed on without being stored) may follow the stored text.
     fn make_front(&mut self) -> Result<bool, AllocError>
         ensures same { OnOk result (state_of self.new ≡ state_of self.old) }
         ensures starts { IfOk result

@@ -631,7 +631,7 @@ fn put(alloc: Global, peer: &mut Peer<Rules>, rep: &RepId, entry: Entry) -> Opti
     }
 }
 
-/// Reads the entry of a session.
+/// Returns, as a string, the log entry of a session of the peer, or the error.
 pub(crate) fn entry(alloc: Global, peer: &Peer<Rules>, session: SessionId) -> Option<String> {
     match peer.entry(session) {
         Ok(entry) => entry_text(alloc, entry),
@@ -639,7 +639,7 @@ pub(crate) fn entry(alloc: Global, peer: &Peer<Rules>, session: SessionId) -> Op
     }
 }
 
-/// Reads the filter's verdict on a document.
+/// Returns, as a string, the verdict of the peer's filter on a document.
 fn verdict(alloc: Global, peer: &Peer<Rules>, text: &str) -> Option<String> {
     let Some(doc) = doc(alloc, text) else {
         return None;
@@ -647,7 +647,7 @@ fn verdict(alloc: Global, peer: &Peer<Rules>, text: &str) -> Option<String> {
     shown(alloc, &peer.filter().verdict(&doc))
 }
 
-/// Reads whether a revision of a document is covered.
+/// Returns, as a string, whether a peer covers (has in a tree or in a session's ledger) a revision of a document.
 fn covered(alloc: Global, peer: &Peer<Rules>, id: &str, text: &str) -> Option<String> {
     let Ok(id) = DocId::parse(alloc, id) else {
         return None;
@@ -658,7 +658,7 @@ fn covered(alloc: Global, peer: &Peer<Rules>, id: &str, text: &str) -> Option<St
     shown(alloc, &peer.covered(&id, rev))
 }
 
-/// Reads the windows of a session.
+/// Returns, as a string, the windows (ranges of the source's changes feed) that the peer has stored for a session.
 fn windows(alloc: Global, peer: &Peer<Rules>, session: SessionId) -> Option<String> {
     match peer.windows(session) {
         Some(windows) => stored_text(alloc, windows),

@@ -44,9 +44,9 @@ pub enum SyncFault {
 /// If a shared document's two trees agreed and had complete histories before this call, the two trees still agree and
 /// have complete histories after the call.
 ///
-/// If the peers are consistent in both directions, they stay consistent for every result of the call. `a` stays
-/// consistent with third peers whose UUID is not `b`'s, and `b` stays consistent with third peers whose UUID is not
-/// `a`'s.
+/// If the peers are consistent in both directions, they stay consistent for every result of the call. Peer `a` stays
+/// consistent with every other peer whose UUID differs from the UUID of `b`. Peer `b` stays consistent with every other
+/// peer whose UUID differs from the UUID of `a`.
 pub fn sync_alone<F: WriteFilter, G: WriteFilter>(
     alloc: Global,
     a: &mut Peer<F>,
