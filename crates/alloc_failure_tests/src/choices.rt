@@ -144,12 +144,13 @@ fn fill(alloc: Global, source: &mut Peer<Rules>) -> Option<()> {
     Some(())
 }
 
-/// The observed values of a replication of selected documents. The first three values are the length of the replication
-/// id, the number of rows of the page, and the recorded sequence. The last two values are the target's update sequence,
-/// and whether the target has only the selected documents.
+/// The values that the test observes in a replication of selected documents. The first three values are the length of
+/// the replication id, the number of rows of the page, and the recorded sequence. The last two values are the target's
+/// update sequence, and whether the target has only the selected documents.
 type Seen = (usize, usize, u64, u64, bool);
 
-/// Returns the observed values of two peers after a replication of selected documents.
+/// Fills the peer `source`, replicates the selected documents into the peer `target`, and returns the values that the
+/// test observes (`Seen`).
 fn ended(alloc: Global, source: &mut Peer<Rules>, target: &mut Peer<Rules>) -> Option<Seen> {
     let Some(()) = fill(alloc, source) else {
         return None;

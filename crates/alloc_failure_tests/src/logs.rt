@@ -95,7 +95,8 @@ fn has_two(alloc: Global, logs: &Logs, target: u64) -> bool {
     }
 }
 
-/// Stores entries for three replications, and returns whether each replication has two entries in a copy of the logs.
+/// Stores log entries of three replications in a `Logs` value, and copies this value. Returns whether the copy has two
+/// entries of each replication.
 fn by_replication(alloc: Global) -> bool {
     let mut logs = Logs::new(alloc);
     if !fills(&mut logs) {

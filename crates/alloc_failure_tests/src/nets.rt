@@ -96,7 +96,8 @@ fn are_clean(alloc: Global, net: &Net<Rules>) -> bool {
     clean
 }
 
-/// Returns a chain of hops from the second peer through the third to the first.
+/// Returns two hops (replications between two peers): from the second peer to the third peer, and from the third peer
+/// to the first peer.
 fn hops(alloc: Global, first: u128, at: Moment) -> Option<Vec<Hop>> {
     let mut hops = Vec::new(alloc);
     let hop = Hop {
@@ -118,7 +119,8 @@ fn hops(alloc: Global, first: u128, at: Moment) -> Option<Vec<Hop>> {
     Some(hops)
 }
 
-/// Creates the chain of `hops`, and retries if an allocation fails.
+/// Calls the function `hops`, which creates a list of hops (replications between two peers), and calls `hops` again if
+/// an allocation fails.
 fn some_hops(alloc: Global, first: u128, at: Moment) -> Option<Vec<Hop>> {
     match hops(alloc, first, at) {
         Some(hops) => Some(hops),
@@ -126,7 +128,8 @@ fn some_hops(alloc: Global, first: u128, at: Moment) -> Option<Vec<Hop>> {
     }
 }
 
-/// Replicates along the chain of hops, and retries with other session ids if an allocation fails.
+/// Performs the hops (replications between two peers) that `some_hops` returns. If an allocation fails, the call
+/// performs the hops again with other session ids.
 fn along(alloc: Global, net: &mut Net<Rules>, at: Moment) -> Option<()> {
     let Some(first) = some_hops(alloc, 1, at) else {
         return None;
@@ -157,7 +160,7 @@ fn plans(alloc: Global, first: u128, at: Moment) -> Option<Vec<Plan>> {
     Some(plans)
 }
 
-/// Creates the plans of `plans`, and retries if an allocation fails.
+/// Calls the function `plans`, which creates a list of plans, and calls `plans` again if an allocation fails.
 fn some_plans(alloc: Global, first: u128, at: Moment) -> Option<Vec<Plan>> {
     match plans(alloc, first, at) {
         Some(plans) => Some(plans),

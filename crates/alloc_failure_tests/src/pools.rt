@@ -12,8 +12,8 @@ use std::mem;
 use std::sync::Wait;
 use std::thread::Threads;
 
-/// A gate that never blocks a worker, but whose `may_block` returns true. With this gate, a run has a separate thread
-/// for each fetcher and each writer.
+/// A gate (the object that may block or stop the workers of a run) that never blocks a worker, but whose `may_block`
+/// returns true. A run with the gate `Separate` starts a separate thread for each fetcher and each writer.
 struct Separate;
 
 impl Gate for Separate {

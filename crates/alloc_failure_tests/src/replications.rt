@@ -1,5 +1,5 @@
-//! Calls `replicate_alone`. After a failed allocation, another replication succeeds, and an audit finds no uncovered
-//! leaf (a leaf of the source that the target neither stored nor rejected).
+//! Calls `replicate_alone`. After a failed allocation, an audit finds no uncovered leaf (a leaf of the source that the
+//! target neither stored nor rejected). After this audit, another replication succeeds.
 use crate::peers::load;
 use anyhow::{Result, bail};
 use repl_log::Moment;

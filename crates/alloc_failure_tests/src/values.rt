@@ -64,7 +64,7 @@ fn is_body(reader: &mut ValueReader, alloc: Global, text: &[u8]) -> Result<bool,
     }
 }
 
-/// Whether one reader reads all texts as expected.
+/// Whether a single `ValueReader` returns the expected results for each text of `TEXTS` and for the text `DOCUMENT`.
 fn are_read(alloc: Global) -> bool {
     let mut reader = ValueReader::new(alloc);
     let mut are_read = true;

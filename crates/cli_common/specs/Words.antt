@@ -10,11 +10,11 @@ use Rattle.clap.specs.declared.parser.matches.ArgMatches.{ArgMatches}
 abbrev pub program_app : List ℕ → App
 program_app name = on_top (λ s. record s { has_version = true }) (new_app name)
 
--- The `clap` rule of an option without a value.
+-- The definition, for `clap`, of a command-line option without a value, such as `--quiet`.
 abbrev pub flag_option : List ℕ → Rule
 flag_option name = record (new_rule name) { long = Some name; action = Some SetTrue }
 
--- The `clap` rule of a positional argument.
+-- The definition, for `clap`, of a positional command-line argument (an argument without an option name).
 abbrev pub hidden_option : List ℕ → Rule
 hidden_option name = record (new_rule name) { action = Some Set }
 

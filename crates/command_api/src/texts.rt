@@ -37,7 +37,7 @@ fn four_digits(number: u32) -> [u8; 4]
     ]
 }
 
-/// Appends a number of any length.
+/// Appends the decimal form of a number that may have any number of digits.
 #[inline(never)]
 fn push_any_number(text: &mut Vec<u8>, number: u64) -> Result<(), AllocError>
     ensures { OnOk result (text.new.items ≡ text.old.items ++ decimal number) }

@@ -175,8 +175,9 @@ where
         × Appends (W.held writer.old) (W.held writer.new) text
         × IsAnswered TrustedLines (no_databases (program_of settings.now)) input clean text state) }
     ensures end { OnOk result (IsAtEnd (R.left reader.new)) }
-    // The clause `took` states the guarantees of the clauses `answers` and `trust`, for the input bytes that the reads
-    // returned. The clause `ended` says that the last read found the end of the input.
+    // The clauses `answers` and `trust` are about the complete input of the reader. The clause `took` makes the
+    // statements of the clauses `answers` and `trust` about those input bytes that the call has read. The clause
+    // `ended` says that the last read found the end of the input.
     ensures took { IfOk result
         (λ clean. (input : List ℕ) × (text : List ℕ) × (state : State)
         × Appends (R.taken reader.old) (R.taken reader.new) input × Appends (W.held writer.old) (W.held writer.new) text

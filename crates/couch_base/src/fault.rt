@@ -36,13 +36,15 @@ pub enum BaseFault {
     /// The requested update sequence exceeds the maximum, 9,007,199,254,740,991.
     #[error("an update sequence above 9007199254740991")]
     SeqTooLarge,
-    /// The limit of a page is 0.
+    /// The limit (the maximum number of rows to read) of a page of the changes feed is 0.
     #[error("a page has at least one row")]
     BadLimit,
-    /// The goal of a page is not above the page's start.
+    /// The goal of a page of the changes feed (the sequence up to which the page may extend) is not above the sequence
+    /// at which the page begins.
     #[error("the goal is not above the start")]
     BadRange,
-    /// The goal of a page is above the update sequence.
+    /// The goal of a page of the changes feed (the sequence up to which the page may extend) is above the database's
+    /// update sequence.
     #[error("the goal is above the update sequence {update_seq}")]
     GoalAhead { update_seq: u64 },
     /// An edit names a parent, and the document does not exist.

@@ -117,8 +117,9 @@ RunsAsk ended input text result =
     (λ lines rest. wrong_or (wrong_line is_wrong lines rest) outcomes.Done) ended input text result
 
 -- The effect of running the task `received`. Unless `only` is true, the output begins with the requested documents of
--- the response. If no line of the input is wrong, the output ends with lines that say which requested leaves were
--- received. If no line of the input is wrong, the outcome says whether a requested revision was not received.
+-- the response. If no line of the input is wrong, the output ends with the lines that `told_in` gives for the request.
+-- If `only` is true, the lines of `told_in` list only the leaves that were not received. If no line of the input is
+-- wrong, the outcome says whether a requested revision was not received.
 abbrev pub RunsReceived : Bool → Type 0 → List ℕ → List ℕ → Result Outcome ScriptFault → Type 0
 RunsReceived only ended input text result =
     RunsLines (passed_on only) (received_text only)

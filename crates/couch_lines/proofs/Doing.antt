@@ -9,6 +9,7 @@ use Rattle.response_output.specs.Words.{Words}
 use Rattle.response_output.specs.{Answered, Converts, Stopped, ReadsAnswers, AnswerFault}
 use Rattle.response_output.specs.Runs.{CountsOf}
 use Rattle.script_engine.specs.{IsFaultOf, ScriptFault}
+use Rattle.diagrams.specs.declared.tally.Outcome.{Outcome}
 use Rattle.response_output.proofs.{reads_answers, reads_changes, reads_leaves, reads_script}
 use Rattle.couch_lines.specs.{IsDone, Makes, is_drawn, wanted_of, words_of_task, Task}
 use Rattle.couch_lines.specs.Runs.{DrawnCounts, IfDone, RunCounts, RunsStandard, RunsWords}
@@ -56,8 +57,8 @@ module _ (left held held' : Option (List ℕ)) (x : Result ℕ AnswerFault) wher
 
 -- ---- a result by its two cases
 
-pub drawn_counts : (r : Result Bool ScriptFault) (n n' a a' b b' : ℕ) → OnOk r ((a' ≡ a) × (b' ≡ b)) → IfErr r (λ fault. IsFaultOf fault n n' a a' b b') → DrawnCounts r n n' a a' b b'
-drawn_counts (Ok clean) n n' a a' b b' ok err = ok
+pub drawn_counts : (r : Result Outcome ScriptFault) (n n' a a' b b' : ℕ) → OnOk r ((a' ≡ a) × (b' ≡ b)) → IfErr r (λ fault. IsFaultOf fault n n' a a' b b') → DrawnCounts r n n' a a' b b'
+drawn_counts (Ok drawn) n n' a a' b b' ok err = ok
 drawn_counts (Err fault) n n' a a' b b' ok err = err
 
 pub run_counts : (r : Result ℕ AnswerFault) (n n' a a' b b' : ℕ) → OnOk r ((a' ≡ a) × (b' ≡ b)) → IfErr r (λ fault. CountsOf fault n n' a a' b b') → RunCounts r n n' a a' b b'

@@ -16,6 +16,7 @@ use Rattle.script_engine.specs.Faults.{IsFaultOf}
 use Rattle.script_engine.specs.declared.fault.ScriptFault.{ScriptFault}
 use Rattle.diagrams.specs.Drawing.{PicturedBy}
 use Rattle.diagrams.specs.declared.form.Form.{Form}
+use Rattle.diagrams.specs.declared.tally.Outcome.{Outcome}
 use Rattle.diagrams.specs.declared.form.Form.TheVariants.{Text, Svg}
 use Rattle.couch_lines.specs.Tasks.{Says, Refuses}
 use Rattle.couch_lines.specs.Status.{unflushed}
@@ -96,8 +97,8 @@ abbrev pub RunCounts : Result ℕ AnswerFault → ℕ → ℕ → ℕ → ℕ �
 RunCounts (Ok passed) reads reads' reader reader' writer writer' = (reader' ≡ reader) × (writer' ≡ writer)
 RunCounts (Err fault) reads reads' reader reader' writer writer' = CountsOf fault reads reads' reader reader' writer writer'
 
-abbrev pub DrawnCounts : Result Bool ScriptFault → ℕ → ℕ → ℕ → ℕ → ℕ → ℕ → Type 0
-DrawnCounts (Ok clean) reads reads' reader reader' writer writer' = (reader' ≡ reader) × (writer' ≡ writer)
+abbrev pub DrawnCounts : Result Outcome ScriptFault → ℕ → ℕ → ℕ → ℕ → ℕ → ℕ → Type 0
+DrawnCounts (Ok drawn) reads reads' reader reader' writer writer' = (reader' ≡ reader) × (writer' ≡ writer)
 DrawnCounts (Err fault) reads reads' reader reader' writer writer' = IsFaultOf fault reads reads' reader reader' writer writer'
 
 abbrev pub EndedCounts : Ended → ℕ → ℕ → ℕ → ℕ → ℕ → ℕ → Type 0

@@ -1,10 +1,11 @@
 -- Defines the exit status of the program `couch_lines`, as specified in docs/PROFILE.md, "Options of `couch_lines`".
-use Rattle.std.specs.Prelude.{ℕ, ◌==◌, Bool, true, false, cond, Result, Ok, Err}
+use Rattle.std.specs.Prelude.{ℕ, ◌==◌, ◌&&◌, cond, Result, Ok, Err}
 use Rattle.clap.specs.Words.{kind_of}
 use Rattle.cli_common.specs.Status.{kind_status}
 use Rattle.script_engine.specs.declared.fault.ScriptFault.{ScriptFault}
 use Rattle.script_engine.specs.declared.fault.ScriptFault.TheVariants as faults
 use Rattle.response_output.specs.declared.run.AnswerFault.{AnswerFault}
+use Rattle.diagrams.specs.declared.tally.Outcome.{Outcome}
 use Rattle.response_output.specs.declared.run.AnswerFault.TheVariants.{Device}
 use Rattle.couch_lines.specs.declared.options.NoTask.{NoTask}
 use Rattle.couch_lines.specs.declared.options.NoTask.TheVariants.{Words, Unknown, Wrong, Memory}
@@ -16,10 +17,10 @@ abbrev pub status_of : Result ℕ AnswerFault → ℕ
 status_of (Ok passed) = cond (passed == 0) 0 1
 status_of (Err fault) = 3
 
--- The exit status of `couch_lines` after a drawing: 0, or 1 if memory was insufficient for a line, or 3 after an error.
-abbrev pub drawn_status : Result Bool ScriptFault → ℕ
-drawn_status (Ok true) = 0
-drawn_status (Ok false) = 1
+-- The exit status of `couch_lines` after a drawing: 0, or 3 after an error. The exit status is 1 if memory was
+-- insufficient for a line, or if `couch_replicate` does not print a line of the input.
+abbrev pub drawn_status : Result Outcome ScriptFault → ℕ
+drawn_status (Ok drawn) = cond (drawn.clean && drawn.tally.unknown == 0) 0 1
 drawn_status (Err fault) = 3
 
 -- The exit status of `couch_lines` if the arguments name no task.
@@ -40,8 +41,8 @@ abbrev pub unwritten : Result ℕ AnswerFault → Result ℕ AnswerFault
 unwritten (Ok passed) = Err (Device faults.Write)
 unwritten (Err fault) = Err fault
 
-abbrev pub undrawn : Result Bool ScriptFault → Result Bool ScriptFault
-undrawn (Ok clean) = Err faults.Write
+abbrev pub undrawn : Result Outcome ScriptFault → Result Outcome ScriptFault
+undrawn (Ok drawn) = Err faults.Write
 undrawn (Err fault) = Err fault
 
 abbrev pub unflushed : Ended → Ended

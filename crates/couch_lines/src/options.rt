@@ -45,15 +45,15 @@ DB is a name of 1 to 32 letters, digits, `-` or `_`; N is a positive integer.
 
 A document is an object whose first member is `_id`, or one that a response of CouchDB
 contains. Its text is copied; only white space outside strings may change. An entry that
-contains no document, or for ids and diff no leaf, is skipped, and
-the number of skipped entries is printed on standard error; `bulk` fails on an object that
-contains no document.
+contains no document, or for ids and diff no leaf, is skipped, as is a line that
+couch_replicate does not print for trees; the number of skipped entries or lines is printed
+on standard error. `bulk` fails on an object that contains no document.
 
 With --whole, `load` puts all members except _id, _rev, _revisions and _deleted into one
 string member `whole`, and does not interpret them. So numbers such as 12.5, attachments
 and all other members pass through couch_replicate unchanged. `bulk --whole` restores them.
 
-Exit status: 0 success; 1 an entry was skipped, or `trees` ran out of memory for a line;
+Exit status: 0 success; 1 an entry or line was skipped, or `trees` ran out of memory for a line;
 2 usage error; 3 the input is an error of CouchDB, is none of the above or is truncated, or
 reading, writing or an allocation failed.";
 

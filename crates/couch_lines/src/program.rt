@@ -10,6 +10,7 @@ use crate::tasks::Named;
 use cli_common::{
     BAD_COMMAND_LINE, report_arguments, report_bad_arguments, report_out_of_memory, words_of,
 };
+use diagrams::{Outcome, Tally};
 use response_output::AnswerFault;
 use response_parser::Refusal;
 use script_engine::{OverRead, OverWrite, Recorder, ScriptFault, ScriptRead, ScriptWrite};
@@ -18,9 +19,9 @@ use std::io::{Eprint, Input, Print, Printer, Write};
 use std::{io, str};
 
 /// Runs the program, and returns its exit status. The status is 0 on success, and 2 for a usage error. The status is 1
-/// if the program skipped an object without a document, or if an allocation for a line of `trees` failed. The status is
-/// 3 if the program rejects the input, if reading or writing failed, or if an allocation failed that is not for a line
-/// of `trees`.
+/// if the program skipped an object or a line, or if an allocation for a line of `trees` failed. The status is 3 if the
+/// program rejects the input, if reading or writing failed, or if an allocation failed that is not for a line of
+/// `trees`.
 pub fn run_program<H: AllocGlobal + Env + Input + Print + Eprint>(rt: &H) -> u8
     ensures { result ≤ 3 }
 {
@@ -88,7 +89,7 @@ fn unflushed(ended: Ended) -> Ended
 
 /// Returns the result of a drawing whose output could not be flushed. If an earlier error ended the run, the call
 /// returns the earlier error.
-fn undrawn(ended: Result<bool, ScriptFault>) -> Result<bool, ScriptFault>
+fn undrawn(ended: Result<Outcome, ScriptFault>) -> Result<Outcome, ScriptFault>
     ensures { result ≡ undrawn ended }
 {
     match ended {
@@ -133,18 +134,31 @@ fn tell<H: Print + Eprint>(rt: &H, ended: &Ended) -> u8
     }
 }
 
-/// Reports why drawing stopped early, and returns the exit status.
-fn tell_drawn(rt: &impl Eprint, ended: &Result<bool, ScriptFault>) -> u8
+/// Reports the lines that `couch_replicate` does not print, or why drawing stopped early. Returns the exit status.
+fn tell_drawn(rt: &impl Eprint, ended: &Result<Outcome, ScriptFault>) -> u8
     ensures { result ≡ drawn_status ended.now }
 {
     match ended {
-        Ok(true) => 0,
-        Ok(false) => 1,
+        Ok(drawn) => {
+            if drawn.tally.unknown > 0 {
+                tell_unknown(rt, drawn.tally);
+            }
+            let complete = drawn.clean && drawn.tally.unknown == 0;
+            if complete { 0 } else { 1 }
+        }
         Err(fault) => {
             let _ = eprintln!(rt; "{fault}");
             3
         }
     }
+}
+
+/// Reports the number of lines that `couch_replicate` does not print, and the number of the first such line.
+fn tell_unknown(rt: &impl Eprint, tally: Tally) {
+    let Tally { unknown, first, .. } = tally;
+    let _ = eprintln!(rt;
+        "skipped {unknown} lines that are not output of couch_replicate (the first: nonblank line {first})"
+    );
 }
 
 /// Returns the usage line of a task.

@@ -7,7 +7,7 @@ ghost use Rattle.couch_lines.specs.Runs.{RunsWords, IfDone, EndedCounts, DrawnCo
 
 use crate::options::{NoTask, read_words};
 use crate::tasks::Task;
-use diagrams::{Form, draw_answers};
+use diagrams::{Form, Outcome, draw_answers};
 use response_output::{AnswerFault, Wording, run_answers};
 use response_parser::{Reading, Wanted};
 use script_engine::{ScriptFault, ScriptRead, ScriptWrite};
@@ -20,9 +20,8 @@ pub enum Ended {
     NotRun(NoTask),
     /// The program converted the input, or the conversion stopped early.
     Ran(Run),
-    /// The program drew the input, or drawing stopped early. The value in `Ok` is false if an allocation failed for a
-    /// line of the input.
-    Drawn(Result<bool, ScriptFault>),
+    /// The program drew the input, or drawing stopped early.
+    Drawn(Result<Outcome, ScriptFault>),
 }
 
 /// The result of a conversion.
@@ -74,7 +73,7 @@ fn draw<R: ScriptRead, W: ScriptWrite>(
     svg: bool,
     reader: &mut R,
     writer: &mut W,
-) -> Result<bool, ScriptFault>
+) -> Result<Outcome, ScriptFault>
     ensures drawn { PicturedBy result (form_of svg) (option_map string_bytes db.now)
         (R.left reader.old) (W.held writer.old) (W.held writer.new) }
     ensures took { (input : List ℕ) × Appends (R.taken reader.old) (R.taken reader.new) input

@@ -75,8 +75,9 @@ pub record AreGiven (text number : Text → Option Text) (o : Options) : Type 0 
 abbrev pub Says : List Text → Options → Type 0
 Says words o = AreGiven (λ id. first_of id (matches_of command_line words)) (λ id. one_of id (matches_of command_line words)) o
 
--- The reason why no options can be made from the command line's arguments. The reason is one of three: `clap` reports
--- an error, no value of `Options` has the values in the arguments, or an allocation failed.
+-- The reason why no options can be made from the command line's arguments. If the reason is `Words`, `clap` reports an
+-- error for the arguments. If the reason is `NoNumber`, no value of `Options` has the values that the arguments give.
+-- If the reason is `Memory`, an allocation failed.
 abbrev pub Refuses : List Text → NoOptions → Type 0
 Refuses words (Words error) = HasKind (fault_of command_line words) error
 Refuses words NoNumber = (o : Options) → Says words o → ⊥

@@ -2,7 +2,7 @@
 use Rattle.proof_prelude.proofs.{◌≡◌, ℕ, ◌==◌, Bool, true, false, List, [], ◌∷◌, ◌++◌, length, map, refl, ap, subst, ◌∙◌, Result, Ok, Err, OnOk, Option, Some, None, arith, IsPermutation, string_bytes, map-append, nat_tests}
 use Rattle.rev_core.specs.{RevId}
 use Rattle.output_parser.specs.{Told, Tells}
-use Rattle.diagrams.specs.{Document, Leaf, Form, Whole, Draws, Sign, signs_of}
+use Rattle.diagrams.specs.{Document, Leaf, Form, Whole, Draws, Sign, signs_of, with_told}
 use Rattle.diagrams.specs.Drawing.{IsDrawn, IsNext, IsPicture, Sketch, State, Takes, state_of, states, whole, with_leaf}
 
 state_is : (r s : RevId) (a b c d : Bool) → r ≡ s → a ≡ b → c ≡ d → Path State (r, a, c) (s, b, d)
@@ -33,6 +33,6 @@ none_open old new t w _ = refl
 pub draws_new : {T E : Type 0} (r : Result T E) (signs : List Sign) (a b : List ℕ) → a ≡ [] → OnOk r (Draws a b signs) → OnOk r (Draws [] b signs)
 draws_new r signs a b e h = subst (λ (t : List ℕ). OnOk r (Draws t b signs)) e h
 
-pub takes_by : {T E : Type 0} (r : Result T E) (old new : Sketch) (line text : List ℕ) (t : Told) (d : Option Whole) → Tells line t → IsNext old.begun t new.begun d → new.form ≡ old.form → new.db ≡ old.db → OnOk r (IsDrawn old.form old.db d text) → OnOk r (Takes old line new text)
-takes_by (Ok x) old new line text t d tells next f g h = record { told = t; whole = d; tells = tells; next = next; drawn = h; form = f; db = g }
-takes_by (Err x) old new line text t d tells next f g h = tt
+pub takes_by : {T E : Type 0} (r : Result T E) (old new : Sketch) (line text : List ℕ) (t : Told) (d : Option Whole) → Tells line t → IsNext old.begun t new.begun d → new.form ≡ old.form → new.db ≡ old.db → new.tally ≡ with_told old.tally t → OnOk r (IsDrawn old.form old.db d text) → OnOk r (Takes old line new text)
+takes_by (Ok x) old new line text t d tells next f g n h = record { told = t; whole = d; tells = tells; next = next; drawn = h; form = f; db = g; tally = n }
+takes_by (Err x) old new line text t d tells next f g n h = tt

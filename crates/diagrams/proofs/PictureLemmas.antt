@@ -17,13 +17,14 @@ module _ (form : Form) (db left held : Option (List ℕ)) where
 
   -- a start, drawings and an end
   picture_of : (input : List ℕ) (clean : Bool) (head text tail : List ℕ) (last : Sketch) → Draws [] head [] → IsAnswered Pictures (first_sketch form db) input clean text last → Draws [] tail []
-      → IsPictureOf form db input clean ((head ++ text) ++ tail)
+      → IsPictureOf form db input (record { clean = clean; tally = last.tally }) ((head ++ text) ++ tail)
   picture_of input clean head text tail last h a t = record {
     head = head;
     head_drawn = h;
     text = text;
     left_open = last;
     answered = a;
+    counts = refl;
     tail = tail;
     tail_drawn = t;
     parts = refl;
@@ -32,7 +33,7 @@ module _ (form : Form) (db left held : Option (List ℕ)) where
 
   pub picture_whole : (input : List ℕ) (clean : Bool) (head text tail : List ℕ) (last : Sketch) (held1 held2 held3 : Option (List ℕ)) → Gives left input
       → Draws [] head [] → IsAnswered Pictures (first_sketch form db) input clean text last → Draws [] tail []
-      → Appends held held1 head → Appends held1 held2 text → Appends held2 held3 tail → IsPictured form db clean left held held3
+      → Appends held held1 head → Appends held1 held2 text → Appends held2 held3 tail → IsPictured form db (record { clean = clean; tally = last.tally }) left held held3
   picture_whole input clean head text tail last held1 held2 held3 g h a t w w' w'' = record {
     input = input;
     gives = g;
@@ -51,7 +52,7 @@ module _ (form : Form) (db left held : Option (List ℕ)) where
       record {
         input = s.input;
         gives = s.gives;
-        clean = a.0;
+        outcome = record { clean = a.0; tally = a.2.tally };
         picture = (head ++ (s.text ++ a.1)) ++ [];
         pictured = picture_of s.input a.0 head (s.text ++ a.1) [] a.2 h a.3 no_ink;
         text = front;
@@ -81,7 +82,7 @@ module _ (form : Form) (db left held : Option (List ℕ)) where
       record {
         input = input;
         gives = g;
-        clean = a.0;
+        outcome = record { clean = a.0; tally = a.2.tally };
         picture = (head ++ (text ++ a.1)) ++ [];
         pictured = picture_of input a.0 head (text ++ a.1) [] a.2 h a.3 no_ink;
         text = head ++ text;
@@ -98,7 +99,7 @@ module _ (form : Form) (db left held : Option (List ℕ)) where
   until_tail input clean head text last held1 held2 g h a w w' = record {
     input = input;
     gives = g;
-    clean = clean;
+    outcome = record { clean = clean; tally = last.tally };
     picture = (head ++ text) ++ [];
     pictured = picture_of input clean head text [] last h a no_ink;
     text = head ++ text;
@@ -115,7 +116,7 @@ module _ (form : Form) (db left held : Option (List ℕ)) where
   until_end input clean head text tail front back last held1 held2 held3 g h a t w w' e w'' = record {
     input = input;
     gives = g;
-    clean = clean;
+    outcome = record { clean = clean; tally = last.tally };
     picture = (head ++ text) ++ tail;
     pictured = picture_of input clean head text tail last h a t;
     text = (head ++ text) ++ front;

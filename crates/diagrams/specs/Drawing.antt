@@ -21,7 +21,10 @@ use Rattle.diagrams.specs.declared.document.Leaf.{Leaf}
 use Rattle.diagrams.specs.declared.form.Form.{Form}
 use Rattle.diagrams.specs.declared.reading.Whole.{Whole}
 use Rattle.diagrams.specs.declared.reading.Whole.TheVariants as wholes
+use Rattle.diagrams.specs.declared.tally.Outcome.{Outcome}
+use Rattle.diagrams.specs.declared.tally.Tally.{Tally}
 use Rattle.diagrams.specs.Shown.{IsSafe, shown}
+use Rattle.diagrams.specs.Tallies.{none_counted, with_line, with_told}
 use Rattle.diagrams.specs.Ink.{Draws, signs_of, signs_of_found, signs_of_log, signs_of_row}
 
 -- ---- documents, line by line
@@ -58,28 +61,30 @@ pub data IsNext : Option Document → Told → Option Document → Option Whole 
   -- A line of a script's output that begins a document.
   opened : {old : Option Document} {id : String Global} {count : ℕ} {d : Document} → Holds d (string_bytes id) [] → d.count ≡ count
       → IsNext old (told.Document id count) (Some d) None
-  -- A line of a script's output with a leaf that is not the last leaf of the open document.
+  -- A line of a script's output that prints a leaf of the open (incomplete) document, but not the document's last leaf.
   more : {d e : Document} {live : Bool} {revs : Vec RevId Global} (r : RevId) → head_of revs.items ≡ Some r
       → Holds e (string_bytes d.id) (with_leaf (states d) r live) → e.count ≡ d.count → vec_len e.leaves < e.count
       → IsNext (Some d) (told.Leaf live revs) (Some e) None
-  -- A line of a script's output with the last leaf of the open document, which is then complete.
+  -- A line of a script's output that prints the last leaf of the open document, which is then complete.
   whole : {d e : Document} {live : Bool} {revs : Vec RevId Global} (r : RevId) → head_of revs.items ≡ Some r
       → Holds e (string_bytes d.id) (with_leaf (states d) r live) → e.count ≡ d.count → e.count ≤ vec_len e.leaves
       → IsNext (Some d) (told.Leaf live revs) None (Some (wholes.Tree e))
-  -- A line of a script's output with a leaf, if no document is open.
+  -- A line of a script's output that prints a leaf while no document is open (incomplete).
   loose : {live : Bool} {revs : Vec RevId Global} → IsNext None (told.Leaf live revs) None None
-  -- A line of a script's output with a leaf and an empty list of revisions, which parsing never produces.
+  -- A line of a script's output that prints a leaf with an empty list of revisions. Parsing never produces a leaf with
+  -- an empty list of revisions.
   empty : {old : Option Document} {live : Bool} {revs : Vec RevId Global} → head_of revs.items ≡ None → IsNext old (told.Leaf live revs) None None
-  -- A line of a script's output with a document and its live leaves.
+  -- A line of a script's output that prints a document's id and its live leaves.
   conflict : {old : Option Document} {id : String Global} {revs : Vec RevId Global} {e : Document} → Holds e (string_bytes id) (with_all [] revs.items)
       → IsNext old (told.Conflict id revs) None (Some (wholes.Tree e))
   -- A line of `compare` about a document, or a line of numbers, in a script's output.
   found : {old : Option Document} {f : Found} → IsNext old (told.Found f) None (Some (wholes.Found f))
   row : {old : Option Document} {r : Row} → IsNext old (told.Row r) None (Some (wholes.Row r))
-  -- A line of a script's output with a log.
+  -- A line of a script's output that prints a replication log.
   log : {old : Option Document} {l : Log} → IsNext old (told.Log l) None (Some (wholes.Log l))
-  -- A line of a script's output that no picture shows.
+  -- A line of a script's output that no picture shows, or a line that is not output of a script.
   other : {old : Option Document} → IsNext old told.Other None None
+  unknown : {old : Option Document} → IsNext old told.Unknown None None
 
 -- ---- pictures
 
@@ -98,18 +103,20 @@ IsDrawn form db (Some (wholes.Found f)) text = Draws [] text (signs_of_found for
 IsDrawn form db (Some (wholes.Row r)) text = Draws [] text (signs_of_row form r.table (string_bytes r.name) r.numbers.items)
 IsDrawn form db (Some (wholes.Log l)) text = Draws [] text (signs_of_log form (string_bytes l.id) l.entries.items)
 
--- The state of drawing between two lines of the input: the picture's format, the name of the database, and the open
--- (incomplete) document.
+-- The state of drawing between two lines of the input: the picture's format, the name of the database, the open
+-- (incomplete) document, and the counts of lines.
 pub record Sketch : Type 0 where
   pub form : Form
   pub db : Option (List ℕ)
   pub begun : Option Document
+  pub tally : Tally
 
-abbrev pub sketch_of : Form → Option (Bor (List ℕ)) → Option Document → Sketch
-sketch_of form db begun = record { form = form; db = option_map (λ (s : Bor (List ℕ)). s.now) db; begun = begun }
+abbrev pub sketch_of : Form → Option (Bor (List ℕ)) → Option Document → Tally → Sketch
+sketch_of form db begun tally =
+    record { form = form; db = option_map (λ (s : Bor (List ℕ)). s.now) db; begun = begun; tally = tally }
 
 -- What a line of a script's output adds to a picture: the drawing of the item that the line completes, or the empty
--- text.
+-- text. The line is counted.
 pub record Takes (old : Sketch) (line : List ℕ) (new : Sketch) (text : List ℕ) : Type 0 where
   pub told : Told
   pub whole : Option Whole
@@ -118,29 +125,34 @@ pub record Takes (old : Sketch) (line : List ℕ) (new : Sketch) (text : List �
   pub drawn : IsDrawn old.form old.db whole text
   pub form : new.form ≡ old.form
   pub db : new.db ≡ old.db
+  pub tally : new.tally ≡ with_told old.tally told
 
 -- The result of processing a line of a script's output: the drawing of the item that the line completes, or an error.
--- After a failed allocation, the picture has no open document.
+-- After a failed allocation, the picture has no open document, and the line counts as a line that `couch_replicate`
+-- prints.
 abbrev pub Pictures : Answering Sketch (List ℕ)
 Pictures old line (Ok text) new = Takes old line new text
 Pictures old line (Err name) new =
     (name ≡ codes "Memory") × (new.begun ≡ None) × (new.form ≡ old.form) × (new.db ≡ old.db)
+    × (new.tally ≡ with_line old.tally)
 
 -- ---- everything from a reader
 
--- The state of drawing before the first line of the input, which has no open document.
+-- The state (`Sketch`) of the conversion of a script's output into a picture, before the conversion reads its first
+-- line. The state `first_sketch` has no open (incomplete) document.
 abbrev pub first_sketch : Form → Option (List ℕ) → Sketch
-first_sketch form db = record { form = form; db = db; begun = None }
+first_sketch form db = record { form = form; db = db; begun = None; tally = none_counted }
 
--- A picture of a script's output, which has a start, the drawings for the output's lines, and an end. The Boolean
--- `clean` says whether memory was sufficient for drawing every line of the script's output. Input texts have no hidden
--- characters in the picture, and also no markup if the picture is an SVG picture.
-pub record IsPictureOf (form : Form) (db : Option (List ℕ)) (input : List ℕ) (clean : Bool) (picture : List ℕ) : Type 0 where
+-- A picture of a script's output, which has a start, the drawings for the output's lines, and an end. The result
+-- `outcome` says whether memory was sufficient for drawing every line of the script's output, and has the counts of the
+-- lines. Input texts have no hidden characters in the picture, and also no markup if the picture is an SVG picture.
+pub record IsPictureOf (form : Form) (db : Option (List ℕ)) (input : List ℕ) (outcome : Outcome) (picture : List ℕ) : Type 0 where
   pub head : List ℕ
   pub head_drawn : Draws [] head []
   pub text : List ℕ
   pub left_open : Sketch
-  pub answered : IsAnswered Pictures (first_sketch form db) input clean text left_open
+  pub answered : IsAnswered Pictures (first_sketch form db) input outcome.clean text left_open
+  pub counts : outcome.tally ≡ left_open.tally
   pub tail : List ℕ
   pub tail_drawn : Draws [] tail []
   pub parts : picture ≡ (head ++ text) ++ tail
@@ -148,19 +160,20 @@ pub record IsPictureOf (form : Form) (db : Option (List ℕ)) (input : List ℕ)
 
 -- The call wrote a picture of its input, which consists of all remaining bytes of the reader (`left`). The writer had
 -- accepted the bytes `held` before the call, and the bytes `held'` after the call.
-pub record IsPictured (form : Form) (db : Option (List ℕ)) (clean : Bool) (left held held' : Option (List ℕ)) : Type 0 where
+pub record IsPictured (form : Form) (db : Option (List ℕ)) (outcome : Outcome) (left held held' : Option (List ℕ)) : Type 0 where
   pub input : List ℕ
   pub gives : Gives left input
   pub picture : List ℕ
-  pub pictured : IsPictureOf form db input clean picture
+  pub pictured : IsPictureOf form db input outcome picture
   pub written : Appends held held' picture
 
 -- The given text is the start of a picture, followed by drawings for which the condition `holds` is true.
 abbrev pub BeginsPicture : (List ℕ → Type 0) → List ℕ → Type 0
 BeginsPicture holds text = (head : List ℕ) × Draws [] head [] × (drawn : List ℕ) × holds drawn × (text ≡ head ++ drawn)
 
--- The text of a picture that is written before an error. After the errors `Read` and `Memory`, each drawing is
--- complete. After the error `Cut`, the text ends within a drawing.
+-- The given text is the part of a picture that was written before the given error occurred. After the errors `Read` and
+-- `Memory`, each drawing in the text is complete. After the error `Cut`, the text ends within a drawing. After the
+-- error `Write`, the text may be any text.
 abbrev pub IsDrawnUntil : ScriptFault → Form → Option (List ℕ) → List ℕ → List ℕ → Type 0
 IsDrawnUntil Read form db input text = BeginsPicture (AnswersFirst Pictures (first_sketch form db) input) text
 IsDrawnUntil Write form db input text = ⊤
@@ -173,9 +186,9 @@ IsDrawnUntil Cut form db input text = BeginsPicture (AnswersCut Pictures (first_
 pub record IsPicturedUntil (fault : ScriptFault) (form : Form) (db : Option (List ℕ)) (left held held' : Option (List ℕ)) : Type 0 where
   pub input : List ℕ
   pub gives : Gives left input
-  pub clean : Bool
+  pub outcome : Outcome
   pub picture : List ℕ
-  pub pictured : IsPictureOf form db input clean picture
+  pub pictured : IsPictureOf form db input outcome picture
   pub text : List ℕ
   pub missing : List ℕ
   pub parts : picture ≡ text ++ missing
@@ -184,6 +197,6 @@ pub record IsPicturedUntil (fault : ScriptFault) (form : Form) (db : Option (Lis
 
 -- If there is no error, a picture of the reader's remaining bytes is written. After an error, a prefix of a picture is
 -- written.
-abbrev pub PicturedBy : Result Bool ScriptFault → Form → Option (List ℕ) → Option (List ℕ) → Option (List ℕ) → Option (List ℕ) → Type 0
-PicturedBy (Ok clean) form db left held held' = IsPictured form db clean left held held'
+abbrev pub PicturedBy : Result Outcome ScriptFault → Form → Option (List ℕ) → Option (List ℕ) → Option (List ℕ) → Option (List ℕ) → Type 0
+PicturedBy (Ok outcome) form db left held held' = IsPictured form db outcome left held held'
 PicturedBy (Err fault) form db left held held' = IsPicturedUntil fault form db left held held'

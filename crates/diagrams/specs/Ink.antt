@@ -218,8 +218,8 @@ sign_in (whole r) = []
 sign_in (short r) = []
 sign_in (sign s) = s ∷ []
 
--- The text `new` is the text `old` followed by pieces of a picture, and `signs` lists the signs among these pieces, in
--- order.
+-- The text `new` is the text `old` followed by the pieces (markup, numbers, ancestors and signs) of a part of a
+-- picture. The list `signs` has the signs (such as leaves and bars) among the pieces after `old`, in order.
 pub record Draws (old new : List ℕ) (signs : List Sign) : Type 0 where
   pub pieces : List Piece
   pub ink : new ≡ old ++ flat_map ink_of pieces
@@ -230,8 +230,8 @@ pub record Draws (old new : List ℕ) (signs : List Sign) : Type 0 where
 abbrev pub leaf_sign : Form → Leaf → Sign
 leaf_sign form l = leaf form l.rev l.wins l.live
 
--- The command that resolves the conflict of the leaf l in database `db`. A picture prints this command only if l is
--- live and is not the document's winner.
+-- A list with the command that resolves the conflict of leaf l of document `id` in database `db`. The list is empty if
+-- leaf l is not live or is the document's winner.
 abbrev pub edit_of : List ℕ → List ℕ → Leaf → List Sign
 edit_of db id l = if not l.wins && l.live then edit db id l.rev ∷ [] else []
 

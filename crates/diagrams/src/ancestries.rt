@@ -218,9 +218,10 @@ impl Ancestries {
         self.next(one, count).cmp(&self.next(other, count))
     }
 
-    /// Follows two ancestries to the last branch that both have. Each step moves one of the two paths out of its
-    /// branch, namely the path whose branch was added later. A branch is always added after the branch from which it
-    /// branches off.
+    /// Follows two ancestries from newer to older revisions, until both paths are in the same branch (a list of
+    /// consecutive revisions) or both ancestries have ended. Each step moves one of the two paths out of its branch,
+    /// namely the path whose branch was added later. A branch is always added after the branch from which it branches
+    /// off.
     fn fork(&self, one: Option<Point>, other: Option<Point>) -> (Climb, Climb) {
         let mut one = Climb {
             at: one,

@@ -47,7 +47,7 @@ fn kept_of(alloc: Global, leaves: &[Leaf], rows: &[Row]) -> Result<Vec<u32>, All
     Ok(kept)
 }
 
-/// Returns the first generation of a row.
+/// Returns the generation of the oldest revision in a leaf's row of the diagram.
 pub fn start_of(leaf: &Leaf, row: &Row) -> u32 {
     if row.hang == 0 || row.hang == u32::MAX {
         return leaf.oldest;

@@ -33,9 +33,10 @@ impl Leaf {
     }
 }
 
-/// Compares two leaves in the order of drawing. Leaves that share more revisions with the winner come first. Leaves
-/// that share the same number of revisions with the winner are ordered by their ancestors, beginning with the oldest
-/// ancestor. In the order of drawing, all leaves that share a revision are adjacent.
+/// Compares two leaves of a document in the order in which a picture shows the leaves. Leaves that share more revisions
+/// with the winner come first. Leaves that share the same number of revisions with the winner are ordered by their
+/// ancestors, beginning with the oldest ancestor. In a picture of a document, all leaves that share a revision are
+/// adjacent.
 fn order_of(ancestries: &Ancestries, one: &Leaf, other: &Leaf) -> Ordering {
     if one.apart != other.apart {
         return one.apart.cmp(&other.apart);
@@ -53,8 +54,8 @@ pub struct Document {
     pub id: String,
     /// The number of leaves.
     pub count: u64,
-    /// The leaves that were read. Before `sort`, the leaves are in the order of reading, winner first. After `sort`,
-    /// the leaves are in the order of drawing.
+    /// Those leaves of the document that the parser has read so far. Before `sort`, the leaves are in the order of
+    /// reading, winner first. After `sort`, the leaves are in the order in which a picture shows them (`order_of`).
     pub leaves: Vec<Leaf>,
     /// The known ancestries of the leaves.
     pub ancestries: Ancestries,

@@ -5,6 +5,7 @@ ghost use Rattle.script_engine.specs.Device.{FailsOnce};
 ghost use Rattle.script_engine.specs.Faults.{IsFaultOf};
 ghost use Rattle.script_engine.specs.declared.fault.ScriptFault.TheVariants.{Write};
 ghost use Rattle.diagrams.specs.Ink.{Draws, signs_of, signs_of_found, signs_of_log, signs_of_row};
+ghost use Rattle.diagrams.specs.Tallies.{with_line};
 ghost use Rattle.diagrams.specs.Drawing.{IsDrawn, IsPicture, PicturedBy, Pictures, Takes, sketch_of};
 
 use crate::document::Document;
@@ -13,6 +14,7 @@ use crate::markup::Markup;
 use crate::reading::{Whole, next};
 use crate::sheet::{mark, number};
 use crate::svg::Extent;
+use crate::tally::{Outcome, Tally};
 use crate::{lines, sessions, svg, text};
 use output_parser::{Found, Log, Row, read_line};
 use script_engine::{NoRest, ScriptFault, ScriptRead, ScriptWrite, Serve, run_lines, write_all};
@@ -29,10 +31,13 @@ struct Drawer<'a> {
     begun: Option<Document>,
     /// The size of the picture.
     extent: Extent,
+    /// The counts of lines.
+    tally: Tally,
 }
 
 impl Serve for Drawer<'_> {
-    ghost answers = { λ old line told new. Pictures (sketch_of old.form old.db old.begun) line told (sketch_of new.form new.db new.begun) };
+    ghost answers = { λ old line told new. Pictures (sketch_of old.form old.db old.begun old.tally) line told
+        (sketch_of new.form new.db new.begun new.tally) };
 
     type Rest = NoRest;
 
@@ -53,23 +58,31 @@ impl Serve for Drawer<'_> {
 }
 
 impl Drawer<'_> {
-    /// Reads a line of the output, and draws the document, comparison, numbers or log that the line completes. If an
-    /// allocation fails, the call drops the document whose lines are being read.
+    /// Reads a line of the output, counts the line, and draws the document, comparison, numbers or log that the line
+    /// completes. If an allocation fails, the call drops the document whose lines are being read.
     fn take_in(&mut self, line: &[u8], answer: &mut Vec<u8>) -> Result<(), AllocError>
         requires { answer.old.items ≡ [] }
-        ensures ok { OnOk result (Takes (sketch_of self.old.form self.old.db self.old.begun) line.now
-            (sketch_of self.new.form self.new.db self.new.begun) answer.new.items) }
-        ensures err { OnErr result (self.new.begun ≡ None) }
+        ensures ok { OnOk result (Takes (sketch_of self.old.form self.old.db self.old.begun self.old.tally) line.now
+            (sketch_of self.new.form self.new.db self.new.begun self.new.tally) answer.new.items) }
+        ensures err { OnErr result ((self.new.begun ≡ None) × (self.new.tally ≡ with_line self.old.tally)) }
         ensures form { self.new.form ≡ self.old.form }
         ensures db { self.new.db ≡ self.old.db }
     {
         let begun = self.begun.take();
+        let tally = self.tally;
+        self.tally = tally.with_line();
         let told = read_line(self.alloc, line)?;
+        let tally = tally.with_told(&told);
         let (begun, whole) = next(self.alloc, begun, told)?;
         match whole {
-            Some(whole) => self.draw_whole(whole, answer),
+            Some(whole) => {
+                self.draw_whole(whole, answer)?;
+                self.tally = tally;
+                Ok(())
+            }
             None => {
                 self.begun = begun;
+                self.tally = tally;
                 Ok(())
             }
         }
@@ -80,6 +93,7 @@ impl Drawer<'_> {
         requires { answer.old.items ≡ [] }
         ensures draws { OnOk result (IsDrawn self.old.form (option_map (λ s. s.now) self.old.db) (Some whole) answer.new.items) }
         ensures begun { self.new.begun ≡ self.old.begun }
+        ensures tally { self.new.tally ≡ self.old.tally }
         ensures form { self.new.form ≡ self.old.form }
         ensures db { self.new.db ≡ self.old.db }
     {
@@ -96,6 +110,7 @@ impl Drawer<'_> {
         ensures draws { OnOk result (Draws answer.old.items answer.new.items (signs_of_found self.old.form
             found.now.finding (string_bytes found.now.id) found.now.revs.items)) }
         ensures begun { self.new.begun ≡ self.old.begun }
+        ensures tally { self.new.tally ≡ self.old.tally }
         ensures form { self.new.form ≡ self.old.form }
         ensures db { self.new.db ≡ self.old.db }
     {
@@ -109,6 +124,7 @@ impl Drawer<'_> {
         ensures draws { OnOk result (Draws answer.old.items answer.new.items (signs_of_row self.old.form
             row.now.table (string_bytes row.now.name) row.now.numbers.items)) }
         ensures begun { self.new.begun ≡ self.old.begun }
+        ensures tally { self.new.tally ≡ self.old.tally }
         ensures form { self.new.form ≡ self.old.form }
         ensures db { self.new.db ≡ self.old.db }
     {
@@ -122,6 +138,7 @@ impl Drawer<'_> {
         ensures draws { OnOk result (Draws answer.old.items answer.new.items (signs_of_log self.old.form
             (string_bytes log.now.id) log.now.entries.items)) }
         ensures begun { self.new.begun ≡ self.old.begun }
+        ensures tally { self.new.tally ≡ self.old.tally }
         ensures form { self.new.form ≡ self.old.form }
         ensures db { self.new.db ≡ self.old.db }
     {
@@ -135,6 +152,7 @@ impl Drawer<'_> {
         requires { answer.old.items ≡ [] }
         ensures draws { OnOk result (IsPicture self.old.form (option_map (λ s. s.now) self.old.db) document answer.new.items) }
         ensures begun { self.new.begun ≡ self.old.begun }
+        ensures tally { self.new.tally ≡ self.old.tally }
         ensures form { self.new.form ≡ self.old.form }
         ensures db { self.new.db ≡ self.old.db }
     {
@@ -147,6 +165,7 @@ impl Drawer<'_> {
         ensures draws { OnOk result (Draws answer.old.items answer.new.items (signs_of self.old.form
             (option_map (λ s. s.now) self.old.db) (string_bytes document.now.id) document.now.leaves.items)) }
         ensures begun { self.new.begun ≡ self.old.begun }
+        ensures tally { self.new.tally ≡ self.old.tally }
         ensures form { self.new.form ≡ self.old.form }
         ensures db { self.new.db ≡ self.old.db }
     {
@@ -166,7 +185,7 @@ impl Drawer<'_> {
 /// numbers in the output of `info` and `replicate`, and replication logs. If the caller names the database, a text
 /// picture includes the commands that resolve conflicts.
 ///
-/// Returns true if no allocation for a line failed.
+/// Returns whether no allocation for a line failed, and the counts of lines.
 ///
 /// # Errors
 ///
@@ -183,7 +202,7 @@ pub fn draw_answers<R: ScriptRead, W: ScriptWrite>(
     db: Option<&str>,
     reader: &mut R,
     writer: &mut W,
-) -> Result<bool, ScriptFault>
+) -> Result<Outcome, ScriptFault>
     ensures pictured { PicturedBy result form (option_map (λ s. s.now) db.entry)
         (R.left reader.old) (W.held writer.old) (W.held writer.new) }
     ensures end { OnOk result (IsAtEnd (R.left reader.new)) }
@@ -206,6 +225,11 @@ pub fn draw_answers<R: ScriptRead, W: ScriptWrite>(
             width: 0,
             height: 0,
         },
+        tally: Tally {
+            lines: 0,
+            unknown: 0,
+            first: 0,
+        },
     };
     match write_all(writer, head_of(form).as_bytes()) {
         Ok(()) => {}
@@ -217,7 +241,10 @@ pub fn draw_answers<R: ScriptRead, W: ScriptWrite>(
     };
     let tail = tail_of(alloc, form, drawer.extent)?;
     match end(writer, tail.as_slice()) {
-        Ok(()) => Ok(clean),
+        Ok(()) => Ok(Outcome {
+            clean,
+            tally: drawer.tally,
+        }),
         Err(fault) => Err(fault),
     }
 }

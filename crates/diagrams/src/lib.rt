@@ -16,7 +16,9 @@ mod rows;
 mod sessions;
 mod sheet;
 mod svg;
+mod tally;
 mod text;
 
 pub use drawer::draw_answers;
 pub use form::Form;
+pub use tally::{Outcome, Tally};

@@ -46,11 +46,13 @@ pub fn next(
         Told::Row(row) => Ok((None, Some(Whole::Row(row)))),
         Told::Log(log) => Ok((None, Some(Whole::Log(log)))),
         Told::Other => Ok((None, None)),
+        Told::Unknown => Ok((None, None)),
     }
 }
 
 /// Adds the leaf of a `leaf` line to the document. Returns the document as incomplete if further `leaf` lines must
-/// follow, and otherwise as a complete item. If `revs` is empty, the call drops the document.
+/// follow, and otherwise as a complete item. If `revs` is empty, the call frees the document, and returns neither an
+/// incomplete document nor a complete item.
 fn read_leaf(
     alloc: Global,
     mut document: Document,

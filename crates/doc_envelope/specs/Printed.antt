@@ -71,7 +71,8 @@ pub record EndsPrinted (t : List ℕ) : Type 0 where
   pub string : List ℕ
   pub text : t ≡ escape string ++ 34 ∷ []
 
--- The text t is what the kit's JSON library writes for a member that an envelope may have, and the closing brace.
+-- The text t is a member that an envelope may have, in the form that the kit's JSON library writes, followed by a
+-- closing brace.
 pub record EndsEnvelope (t : List ℕ) : Type 0 where
   pub member : List ℕ
   pub printed : IsPrintedMember member

@@ -1,4 +1,4 @@
--- Defines how one member changes the text of an envelope that is built or unwrapped.
+-- Defines how wrapping a document in an envelope, and unwrapping an envelope, build their output text member by member.
 use Rattle.std.specs.Prelude.{ℕ, ◌==◌, nat_lt, length, get_or, drop, ◌+◌, List, [], ◌∷◌, ◌++◌, cond, Option, Some, option_map, option_and_then}
 use Rattle.json.specs.Print.{quoted}
 use Rattle.doc_envelope.specs.Members.{is_blank}

@@ -1,5 +1,6 @@
--- Defines when output for the first bytes of a document can be written before the rest of the document is read. A run
--- (consecutive bytes in a string) is written at once, and is not stored.
+-- Defines when output for the first bytes of a document can be written before the rest of the document is read. The
+-- bytes of a run (consecutive bytes in a string) are written before later bytes of the document are read, and are not
+-- stored.
 use Rattle.std.specs.Prelude.{◌≡◌, ℕ, ◌≤◌, ◌-◌, ◌&&◌, ◌==◌, nat_le, nat_lt, length, drop, List, [], ◌∷◌, ◌++◌, Bool, true, not}
 use Rattle.std.specs.List.{list_all}
 use Rattle.doc_envelope.specs.Members.{Mode, Outside, Quoted, first_length, mode_behind}
@@ -31,9 +32,10 @@ pub data Opens : List ℕ → List ℕ → Type 0 where
   open_last : {u : List ℕ} → first_length u ≡ length u → Opens u u
   open_later : {u : List ℕ} (m t : List ℕ) → first_length (m ++ 44 ∷ t) ≡ length m → Opens t u → Opens (m ++ 44 ∷ t) u
 
--- The text f is the beginning of a document, and s is f without the runs that are not stored. The output for f begins
--- with F, and the output for s begins with S. `IsStart s S` states two facts. Bytes of a string that are not stored (a
--- run) may follow s, and the output for each document that begins with s begins with S.
+-- The text f is the beginning of a document, and s is f without the runs that are not stored. The output for a document
+-- that begins with the text f begins with the text F. The output for a document that begins with the text s begins with
+-- the text S. `IsStart s S` states two facts. Bytes of a string that are not stored (a run) may follow s, and the
+-- output for each document that begins with s begins with S.
 pub data Front (IsStart : List ℕ → List ℕ → Type 0) : List ℕ → List ℕ → List ℕ → List ℕ → Type 0 where
   start : {s S : List ℕ} → IsStart s S → Front IsStart s s S S
   run : {f s F S : List ℕ} → Front IsStart f s F S → IsStart s S → (r : List ℕ) → IsRun r

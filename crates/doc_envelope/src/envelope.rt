@@ -9,11 +9,11 @@ ghost use Rattle.doc_envelope.specs.Steps.{added, held_with, text_with, held_by,
 ghost use Rattle.doc_envelope.specs.Stored.{made_of, held_of, printed_of, HasPrintedFront};
 ghost use Rattle.doc_envelope.specs.PutFronts.{before_last};
 
+use crate::json_scratch::JsonScratch;
 use crate::members::first_length;
 use crate::names::{has_name, value_of};
 use crate::printing::still_printed;
 use crate::values::{is_envelope, quote, string_of};
-use json::Scratch;
 use std::alloc::{AllocError, Global};
 
 /// The name, with its quotation marks, of the member that contains all wrapped members of an envelope in one string.
@@ -30,7 +30,7 @@ pub struct Envelope {
     /// If `printed` is true, each member of the envelope other than `whole` has the text that the kit's JSON library
     /// prints for this member.
     printed: bool,
-    scratch: Scratch,
+    scratch: JsonScratch,
 }
 
 impl Envelope {
@@ -43,7 +43,7 @@ impl Envelope {
             text: Vec::new(alloc),
             held: Vec::new(alloc),
             printed: false,
-            scratch: Scratch::new(alloc),
+            scratch: JsonScratch::new(),
         }
     }
 
@@ -78,11 +78,12 @@ impl Envelope {
         if printed {
             return Ok(true);
         }
-        is_envelope(self.alloc, self.text.as_slice(), &mut self.scratch)
+        let scratch = self.scratch.get(self.alloc)?;
+        is_envelope(self.alloc, self.text.as_slice(), scratch)
     }
 
-    /// Unwraps a document. Returns `false` if the text is not an object, or if it has a member `whole` that is not a
-    /// string of members.
+    /// Unwraps a document. Returns `false` if the text is not a JSON object, or if the object's member `whole` is not a
+    /// string that has the text of JSON members.
     pub fn take(&mut self, document: &[u8]) -> Result<bool, AllocError>
         ensures text { IfOk result (λ ok. unfolded document.now ≡ cond ok (Some (made_of self.new)) None) }
         ensures gives_back { (fs ws os : List (List ℕ)) → HasMembers document.now (fs ++ ws) → AreOthers fs
@@ -111,10 +112,16 @@ impl Envelope {
         ensures value { IfOk result (λ json. json ≡ is_json (made_of self.old)) }
         ensures same { made_of self.new ≡ made_of self.old }
     {
-        let Ok(text) = simdutf8::basic::from_utf8(self.text.as_slice()) else {
-            return Ok(false);
-        };
-        json::is_valid(text, &mut self.scratch)
+        self.scratch.is_json(self.alloc, self.text.as_slice())
+    }
+
+    /// Whether a text is JSON in UTF-8. The call leaves the text that was built last unchanged, and reads with the
+    /// memory that wrapping and unwrapping use, too.
+    pub fn is_json_text(&mut self, text: &[u8]) -> Result<bool, AllocError>
+        ensures value { IfOk result (λ json. json ≡ is_json text.now) }
+        ensures same { made_of self.new ≡ made_of self.old }
+    {
+        self.scratch.is_json(self.alloc, text)
     }
 
     /// Starts a new text with an opening brace.
@@ -278,7 +285,8 @@ impl Envelope {
         ensures { IfOk result (λ ok. option_map (added (made_of self.old))
             (option_and_then if_any (string_of value.now)) ≡ cond ok (Some (made_of self.new)) None) }
     {
-        let members = match string_of(self.alloc, value, &mut self.scratch) {
+        let scratch = self.scratch.get(self.alloc)?;
+        let members = match string_of(self.alloc, value, scratch) {
             Ok(Some(members)) => members,
             Ok(None) => return Ok(false),
             Err(refused) => return Err(refused),

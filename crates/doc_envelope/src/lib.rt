@@ -4,6 +4,7 @@
 #![tactic(auto)]
 
 mod envelope;
+mod json_scratch;
 mod members;
 mod names;
 mod printed_envelopes;

@@ -12,9 +12,9 @@ use std::alloc::AllocError;
 
 impl Envelope {
     /// Wraps the beginning of a document. Returns true only if a run (string bytes that are passed on without being
-    /// stored) may follow the beginning of the document. If the call returns true, the built text is the beginning of
-    /// the envelope of each document that begins with `beginning`. The later members of the document must all be
-    /// members that the envelope stores in its string `whole`.
+    /// stored) may follow the beginning of the document. Suppose that the call returns true, and a document begins with
+    /// `beginning`. If the document's envelope stores all later members in its string `whole`, the envelope begins with
+    /// the built text.
     pub fn begin_put(&mut self, beginning: &[u8]) -> Result<bool, AllocError>
         ensures { IfOk result (λ ok. ok ≡ true → IsPutStart beginning.now (made_of self.new)) }
     {

@@ -112,7 +112,7 @@ pub fn read_line_body(alloc: Global, part: &LinePart<'_, '_>) -> Result<Body, Do
 }
 
 /// Reads a value as a body. The argument `plain` says which strings of the value need no escapes when they are written
-/// as JSON, and `room` is the initial capacity for the body.
+/// as JSON. The argument `room` is a lower bound of the initial capacity for the body.
 fn body_of<'v, V: JsonValue<'v>>(
     alloc: Global,
     value: &'v V,

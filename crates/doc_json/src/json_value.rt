@@ -12,7 +12,8 @@ use json_values::PlainTexts;
 use serde_json::Number;
 use std::alloc::AllocError;
 
-/// A JSON value from which a document is read. The value is a `serde_json` value or a value inside a line.
+/// A JSON value from which a document is read. The type of the value is `Value` (of `serde_json`) or `LineValue` (of
+/// `json_values`).
 ///
 /// Contract clauses describe a JSON value by its data (`seen`). The ghost value `in_order` says whether the members of
 /// an object are in the byte order of the members' names. Some types of JSON values guarantee that members are in this

@@ -29,7 +29,7 @@ IsErrorOf error reason Other = ⊥
 IsErrorOf error reason Memory = ⊥
 
 -- The error for a JSON value that is not the requested response. The error is `Error` only for an error of CouchDB, and
--- `Other` only for other values. The error `Memory` is possible for every value.
+-- `Other` only for other values. The error `Memory` (an allocation failed) is possible for every JSON value.
 abbrev pub IsSaid : Json → Said → Type 0
 IsSaid j (Error error reason) = error_in j ≡ Some (string_bytes error, string_bytes reason)
 IsSaid j NotJson = ⊥

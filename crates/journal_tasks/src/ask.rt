@@ -121,7 +121,8 @@ impl LineTask for Ask {
     }
 }
 
-/// Writes the body of a `_bulk_get` request for the leaves of the list that the reader has.
+/// Reads a list of leaves from `reader`, and writes the body of a `_bulk_get` request for all leaves of the list to
+/// `writer`.
 ///
 /// # Errors
 ///

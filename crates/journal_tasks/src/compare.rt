@@ -59,7 +59,8 @@ impl Compare {
         Ok(())
     }
 
-    /// If the task prints output for a line of the second list of leaves in the task's input, appends this output.
+    /// Appends the output (which may be empty) that the task prints for one line of the second list of leaves in its
+    /// input.
     fn push(&self, text: &mut Vec<u8>, leaves: Leaves) -> Result<(), AllocError> {
         let Leaves { seq, id, revs } = leaves;
         if self.documents && self.docs.contains_key(id.as_str()) {

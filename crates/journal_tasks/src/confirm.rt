@@ -183,8 +183,8 @@ impl LineTask for Confirm {
 }
 
 /// Reads a journal, finds the part that the journal's checksums confirm, and writes a report about this part. If the
-/// caller gives a sequence, the report ends at the last block whose end line names this sequence. If no block has the
-/// sequence, there is no output.
+/// caller gives a sequence, the report ends at the last confirmed block whose sequence is the given sequence, or begins
+/// with the given sequence and `-`. If no confirmed block has such a sequence, there is no output.
 ///
 /// # Errors
 ///

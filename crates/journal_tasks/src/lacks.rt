@@ -37,7 +37,8 @@ impl Lacks {
     }
 
     /// Reads a `state` line or a `lacks` line. For a `state` line, the call removes the table's line about the same
-    /// document. For a `lacks` line, the call replaces the table's line about the same document.
+    /// document. For a `lacks` line, the call also removes the table's line about the same document, and then adds the
+    /// `lacks` line to the table.
     fn note_entry(&mut self, entry: &Entry, line: &[u8]) -> Result<(), AllocError> {
         match entry {
             Entry::State(leaves) => {

@@ -11,7 +11,7 @@ use std::alloc::{AllocError, Global};
 /// of the input has at least one line, even if this line alone exceeds a maximum. For each part, the task prints a line
 /// with the part's numbers of lines and bytes, followed by the part's lines.
 ///
-/// The task holds one part in memory.
+/// At any time, the task stores only one part of its input in memory.
 #[derive(Drop)]
 pub struct Parts {
     alloc: Global,

@@ -17,7 +17,7 @@ const MOST: usize = 16;
 ///
 /// In a line of many small objects, objects of the same depth usually have the same number of members. If the initial
 /// capacity of an object is the length of the last object of the same depth, the object usually takes no more memory
-/// than it needs. No contract depends on a capacity.
+/// than it needs. No contract states the initial capacity of an array or an object.
 #[derive(Drop)]
 pub(crate) struct Capacities {
     /// The eight lengths of the table, each stored in one byte.

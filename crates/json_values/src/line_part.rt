@@ -140,8 +140,8 @@ impl<'v, 'a> LinePart<'v, 'a> {
         self.plain
     }
 
-    /// Returns the length of the complete line's text in bytes if the text is long, or 0 if the text is short. The
-    /// compact form of the value is at most as long as the text.
+    /// Returns the length of the complete line's text in bytes if the text is long, or 0 if the text is short. If each
+    /// number in the value is an i64 or a u64, the compact form of the value is at most as long as the text.
     ///
     /// The length is only a capacity to reserve, so the contract states its bounds and not its value.
     #[inline(always)]

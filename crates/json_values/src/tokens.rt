@@ -338,12 +338,13 @@ impl<'a> Tokens<'a> {
         self.lexer.is_long()
     }
 
-    /// Returns the array that the last call of `note_array` recorded. No contract depends on the array.
+    /// Returns the array that was the argument of the last call of `note_array`. No contract states which array the
+    /// call returns.
     pub(crate) fn last_array(&self) -> &'a [LineValue<'a>] {
         self.last_array.get()
     }
 
-    /// Records an array that was stored in the arena.
+    /// Sets the field `last_array` to an array that was stored in the arena.
     pub(crate) fn note_array(&self, items: &'a [LineValue<'a>]) {
         self.last_array.set(items);
     }

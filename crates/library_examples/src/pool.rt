@@ -29,7 +29,7 @@ const WORKERS: usize = 4;
 /// The maximum number of times that the viewer reads the progress board.
 const LOOKS: u64 = 10_000_000;
 
-/// Replicates the shop into its copy while a viewer reads the progress.
+/// Replicates the peer `shop` (a shop's database with orders) into the peer `copy`, while a viewer reads the progress.
 pub fn run<R: Threads + Wait + Print + Eprint + Sync>(rt: &R, alloc: Global) -> Result<()> {
     let mut shop = Peer::new(alloc, 1, Rules { deny: None });
     let copy = Peer::new(alloc, 2, Rules { deny: None });

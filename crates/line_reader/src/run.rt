@@ -112,8 +112,8 @@ fn finish<T: LineTask, W: ScriptWrite>(
 /// `Write` if the writer failed in this call. Returns `Memory` if an allocation failed, or if a count of the task is at
 /// its maximum.
 ///
-/// After an error, the writer has the task's text for the input's first lines, and then a prefix of the text for the
-/// next line or for the input's end.
+/// After an error, the writer has accepted the task's complete output for the first n lines of the input, for some n.
+/// The writer has then accepted a prefix of the task's output for the next line or for the end of the input.
 pub fn run_task<T: LineTask, R: ScriptRead, W: ScriptWrite>(
     alloc: Global,
     task: &mut T,

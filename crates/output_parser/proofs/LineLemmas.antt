@@ -1,6 +1,8 @@
 -- The parts of a line are unique.
-use Rattle.proof_prelude.proofs.{◌≡◌, ℕ, Bool, true, false, List, [], ◌∷◌, ◌++◌, sym, ap, ◌∙◌, append_assoc, codes, Option, Some, None, IfNone, IfSome, arith, subst, is_none, false≢true, append_cancel_left, append_cancel_right}
-use Rattle.output_parser.specs.{lacks, IsDocLine, LeafParts, ListedParts, NoFinding, NoRow, state_text, Finding, Table}
+use Rattle.proof_prelude.proofs.{◌≡◌, ℕ, Bool, true, false, if◌then◌else◌, refl, List, [], ◌∷◌, ◌++◌, sym, ap, ◌∙◌, append_assoc, codes, Option, Some, None, IfNone, IfSome, arith, subst, is_none, false≢true, append_cancel_left, append_cancel_right}
+use Rattle.output_parser.specs.{lacks, IsDocLine, LeafParts, ListedParts, NoFinding, NoRow, state_text, Finding, Table, is_undrawn, other_of}
+use Rattle.output_parser.specs.Lines.{NoMore, TellsMore}
+use Rattle.output_parser.specs.declared.told.Told.TheVariants as told
 use Rattle.output_parser.specs.declared.told.Finding.TheVariants as findings
 use Rattle.output_parser.specs.declared.told.Table.TheVariants as tables
 use Rattle.output_parser.proofs.WordLemmas.{first_unique, last_unique}
@@ -58,6 +60,14 @@ pub all_rows : (line : List ℕ) → NoRow line tables.Compared → NoRow line t
 all_rows line a b c tables.Compared = a
 all_rows line a b c tables.Info = b
 all_rows line a b c tables.Session = c
+
+-- a line without a format of drawn lines
+told_by : (line : List ℕ) (q : Bool) → is_undrawn line ≡ q → NoMore line → TellsMore line (if q then told.Other else told.Unknown)
+told_by line true e h = (h, e)
+told_by line false e h = (h, e)
+
+pub other_told : (line : List ℕ) → NoMore line → TellsMore line (other_of line)
+other_told line h = told_by line (is_undrawn line) refl h
 
 pub listed_list : (word line a b x y : List ℕ) → ListedParts word line a x → ListedParts word line b y → x ≡ y
 listed_list word line a b x y p q = (last_unique 32 a b x y p.lacks_blank q.lacks_blank (after word line _ _ p.form q.form)).1

@@ -7,6 +7,7 @@ use Rattle.rev_core.specs.Ancestry.{FallsByOne}
 use Rattle.output_parser.specs.Words.{lacks, named, IsNumber, IsRevs}
 use Rattle.output_parser.specs.Columns.{IsRow}
 use Rattle.output_parser.specs.Logs.{IsLog, Logged, logged}
+use Rattle.output_parser.specs.Undrawn.{is_undrawn}
 use Rattle.output_parser.specs.declared.told.Finding.{Finding}
 use Rattle.output_parser.specs.declared.told.Finding.TheVariants as findings
 use Rattle.output_parser.specs.declared.told.Table.{Table}
@@ -76,6 +77,16 @@ NoRow line table = (name numbers : List ℕ) → IsRow table line name numbers �
 abbrev pub NoLog : List ℕ → Type 0
 NoLog line = (id : List ℕ) (entries : List Logged) → IsLog line id entries → ⊥
 
+-- The line has no format of `show` or `conflicts`.
+abbrev pub NoTree : List ℕ → Type 0
+NoTree line =
+    ((id : List ℕ) (count : ℕ) → IsDocLine line id count → ⊥) × ((live : Bool) (revs : List RevId) → IsLeafLine line live revs → ⊥)
+    × ((id : List ℕ) (revs : List RevId) → IsListed (codes "conflict ") line id revs → ⊥)
+
+-- The line has no format of `compare`, of a line of numbers, or of a log.
+abbrev pub NoMore : List ℕ → Type 0
+NoMore line = ((finding : Finding) → NoFinding line finding) × ((table : Table) → NoRow line table) × NoLog line
+
 -- The contents of a line of a script's output that does not describe a document's tree.
 abbrev pub TellsMore : List ℕ → Told → Type 0
 TellsMore line (told.Document id count) = ⊥
@@ -84,9 +95,11 @@ TellsMore line (told.Conflict id revs) = ⊥
 TellsMore line (told.Found f) = IsListed (finding_text f.finding) line (string_bytes f.id) f.revs.items
 TellsMore line (told.Row r) = IsRow r.table line (string_bytes r.name) r.numbers.items
 TellsMore line (told.Log l) = IsLog line (string_bytes l.id) (map logged l.entries.items)
-TellsMore line told.Other = ((finding : Finding) → NoFinding line finding) × ((table : Table) → NoRow line table) × NoLog line
+TellsMore line told.Other = NoMore line × (is_undrawn line ≡ true)
+TellsMore line told.Unknown = NoMore line × (is_undrawn line ≡ false)
 
--- The contents of a line of a script's output, which is `Other` if the line has no known format.
+-- The contents of a line of a script's output. A line that is not drawn is `Other` if it begins as an output line, and
+-- otherwise `Unknown`.
 abbrev pub Tells : List ℕ → Told → Type 0
 Tells line (told.Document id count) = IsDocLine line (string_bytes id) count
 Tells line (told.Leaf live revs) = IsLeafLine line live revs.items
@@ -94,7 +107,5 @@ Tells line (told.Conflict id revs) = IsListed (codes "conflict ") line (string_b
 Tells line (told.Found f) = IsListed (finding_text f.finding) line (string_bytes f.id) f.revs.items
 Tells line (told.Row r) = IsRow r.table line (string_bytes r.name) r.numbers.items
 Tells line (told.Log l) = IsLog line (string_bytes l.id) (map logged l.entries.items)
-Tells line told.Other =
-    ((id : List ℕ) (count : ℕ) → IsDocLine line id count → ⊥) × ((live : Bool) (revs : List RevId) → IsLeafLine line live revs → ⊥)
-    × ((id : List ℕ) (revs : List RevId) → IsListed (codes "conflict ") line id revs → ⊥)
-    × (((finding : Finding) → NoFinding line finding) × ((table : Table) → NoRow line table) × NoLog line)
+Tells line told.Other = NoTree line × NoMore line × (is_undrawn line ≡ true)
+Tells line told.Unknown = NoTree line × NoMore line × (is_undrawn line ≡ false)

@@ -10,6 +10,7 @@ mod numbers;
 mod revs;
 mod rows;
 mod told;
+mod undrawn;
 
 pub use lines::read_line;
 pub use told::{Column, Entry, Finding, Found, Log, Member, Row, Table, Told};

@@ -3,6 +3,7 @@ ghost use Rattle.std.specs.Prelude.{◌≡◌, ℕ, List, Bool, IfOk, IfSome, If
 ghost use Rattle.std.specs.List.{AllByRecursion};
 ghost use Rattle.rev_core.specs.Rev.{IsRev, RevId};
 ghost use Rattle.output_parser.specs.Lines.{BeginsWith, IsDocLine, IsLeafLine, IsListed, LeafParts, ListedParts, Tells, TellsMore, finding_text};
+ghost use Rattle.output_parser.specs.Undrawn.{other_of};
 
 use crate::cuts::{behind, cut_first, cut_last, cut_named};
 use crate::logs::read_log;
@@ -10,6 +11,7 @@ use crate::numbers::number;
 use crate::revs::{falls_by_one, read_revs, revision};
 use crate::rows::read_row;
 use crate::told::{Finding, Found, Table, Told};
+use crate::undrawn::is_undrawn;
 use rev_core::Rev;
 use std::alloc::{AllocError, Global};
 use std::str;
@@ -57,7 +59,18 @@ fn read_more(alloc: Global, line: &[u8]) -> Result<Told, AllocError>
     }
     match read_log(alloc, line)? {
         Some(log) => Ok(Told::Log(log)),
-        None => Ok(Told::Other),
+        None => Ok(other_of(line)),
+    }
+}
+
+/// Returns the variant of a line that has none of the formats of drawn lines.
+fn other_of(line: &[u8]) -> Told
+    ensures { result ≡ other_of line.now }
+{
+    if is_undrawn(line) {
+        Told::Other
+    } else {
+        Told::Unknown
     }
 }
 

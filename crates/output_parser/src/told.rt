@@ -23,8 +23,10 @@ pub enum Told {
     Row(Row),
     /// A log.
     Log(Log),
-    /// Any other line.
+    /// Any other line that `couch_replicate` prints.
     Other,
+    /// A line that `couch_replicate` does not print.
+    Unknown,
 }
 
 /// A line of `compare` about a document.
@@ -119,7 +121,7 @@ impl Table {
     }
 }
 
-/// A column of a line of numbers.
+/// The meaning of one number in an output line of captions and numbers, such as the totals that `compare` prints.
 #[derive(Clone, Copy, Debug, PartialEq, Eq)]
 pub enum Column {
     /// The counts of `compare`: the source's documents and leaves, the leaves that the target lacks, contradicting
@@ -129,7 +131,7 @@ pub enum Column {
     ComparedMissing,
     Contradicting,
     Differing,
-    /// Of `info`.
+    /// The numbers that `info` prints for a database.
     Seq,
     Life,
     Documents,
@@ -138,7 +140,7 @@ pub enum Column {
     Conflicts,
     Revisions,
     Sessions,
-    /// Of a session.
+    /// The numbers that a script's output has for a session.
     From,
     To,
     Checked,
@@ -200,7 +202,8 @@ pub struct Entry {
     pub failed: u64,
 }
 
-/// A member of a session in a printed log. The variants have the order of the members in the log.
+/// A JSON member of the object that describes a session in a printed replication log. The variants have the order of
+/// the members in the log.
 #[derive(Clone, Copy, Debug, PartialEq, Eq)]
 pub enum Member {
     Failed,

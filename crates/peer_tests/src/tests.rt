@@ -3,7 +3,8 @@
 //!
 //! A bench, which is a test fixture, holds the databases or peers of a test, and the values that calls on these
 //! databases or peers returned. Each kind of call is a variant of an enum. The code that performs the calls of one kind
-//! is proved once, and all tests use this code. A test is only a table of calls, and needs no further proof.
+//! is proved once, and all tests with calls of this kind use the code. A test is only a table of calls, and needs no
+//! further proof.
 
 // Calls on databases.
 mod database_rows;

@@ -33,8 +33,8 @@ read_on seats = total (λ (s : BoardSeat). s.read) seats
 abbrev pub settled_on : List BoardSeat → ℕ
 settled_on seats = total (λ (s : BoardSeat). s.settled) seats
 
--- From the seats `given` to the seats `now`, the sum of the read counters and the sum of the settled counters each rise
--- by n.
+-- The sum of the read counters of the seats `now` is n more than the sum of the read counters of the seats `given`. The
+-- sum of the settled counters of the seats `now` is n more than the sum of the settled counters of the seats `given`.
 abbrev pub HaveRisenBy : ℕ → List BoardSeat → List BoardSeat → Type 0
 HaveRisenBy n given now = (read_on now ≡ read_on given + n) × (settled_on now ≡ settled_on given + n)
 
@@ -96,18 +96,18 @@ abbrev pub HasRoom : Option Board → ℕ → Option BoardSeat → Type 0
 HasRoom (Some b) n (Some s) = s.settled + n ≤ s.read
 HasRoom board n seat = Unit {0}
 
--- The values s and t are a writer's seat (an access token to the progress board) before and after the writer's count of
--- settled documents rose from a to z. If the run has no progress board, s and t are equal.
+-- The values s and t are a writer's seat (an access token to the progress board) before and after z - a documents were
+-- added to the seat's settled counter. If the run has no progress board, s and t are equal.
 abbrev pub HasSettled : Option Board → ℕ → ℕ → Option BoardSeat → Option BoardSeat → Type 0
 HasSettled None a z s t = t ≡ s
 HasSettled (Some b) a z (Some s) (Some t) =
     WorksAt b t × (t.number ≡ s.number) × (t.read ≡ s.read) × (t.settled + a ≡ s.settled + z)
 HasSettled (Some b) a z s t = ⊥
 
--- The values s and t are a writer's seat (an access token to the progress board) before and after the writer's count of
--- settled documents rose from a to z. The read counter of t is at least the read counter of s. If the writer was not
--- stopped, the read counter of t exceeds the read counter of s by the difference between z and a. If the run has no
--- progress board, s and t are equal.
+-- The values s and t are a writer's seat (an access token to the progress board) before and after z - a documents were
+-- added to the seat's settled counter. The read counter of t is at least the read counter of s. If the writer was not
+-- stopped, the read counter of t exceeds the read counter of s by z - a. If the run has no progress board, s and t are
+-- equal.
 abbrev pub HasWritten : Option Board → ℕ → ℕ → Option Halt → Option BoardSeat → Option BoardSeat → Type 0
 HasWritten None a z stopped s t = t ≡ s
 HasWritten (Some b) a z stopped (Some s) (Some t) =

@@ -22,8 +22,8 @@ HasRun source run sessions =
     (s : SessionValue) × (session_in sessions run ≡ Some s) × (s.life ≡ source.life) × (s.goal ≡ source.update_seq)
 
 module _ {F : Type 0} (refuses : F → Document → Bool) where
-  -- The target `now` has the same filter as the target `given`. The peer `now` results from the peer `given` by calls
-  -- of the run with messages of the source, and by no other calls.
+  -- The target `now` has the same filter as the target `given`. Only calls for the run's session have changed the
+  -- target from `given` to `now`. Each window or parcel that the run passes to the target comes from the source.
   abbrev pub GrownPeer : DatabaseValue → Choice → SessionId → F × PeerValue → F × PeerValue → Type 0
   GrownPeer source chosen run given now = (now.0 ≡ given.0) × IsGrown (refuses given.0) source chosen run given.1 now.1
 

@@ -9,7 +9,8 @@ use Rattle.repl_peer.specs.peer.Peer.{SessionValue}
 use Rattle.repl_target.specs.declared.replication.Plan.{Plan}
 use Rattle.repl_target.specs.replication.Replication.{is_batch, next_window, has_left}
 
--- Window w is the page of the source's selected feed that begins at w's lower bound.
+-- Window w is the page of the source's selected feed that a run with the given plan reads next after the sequence
+-- `w.lo`.
 abbrev pub IsNext : DatabaseValue → Plan → WindowValue → Type 0
 IsNext source plan w =
     (is_batch plan.batch ≡ true) × (w.lo < source.update_seq) × (w ≡ next_window source plan w.lo)

@@ -17,11 +17,11 @@ use Rattle.pool_workers.specs.Parcels.{parcel_view}
 use Rattle.pool_workers.specs.Windows.{window_view}
 use Rattle.pool_workers.specs.Workers.{FetcherKnows, WriterKnows}
 
--- What the caller's thread has before the thread starts the workers. The caller's thread has the complete pass (the
--- ghost right to use a channel) of each channel, and both channels are unused. The caller's thread also has all parts
--- of the ledger (a ghost count of settled documents, which is 0), and a list with capacity for a count from each
--- fetcher. If the run has a progress board, the caller's thread has a seat (an access token to the progress board) for
--- each writer.
+-- What the caller's thread has before the thread starts the workers. For each channel, the caller's thread has all
+-- 1,024 parts of the pass (the ghost right to use the channel), and both channels are unused. The caller's thread also
+-- has all parts of the ledger, which is a ghost count of settled documents. The ledger's count is 0 before the workers
+-- start. The caller's thread also has an empty list with capacity for one count from each fetcher. If the run has a
+-- progress board, the caller's thread has a seat (an access token to the progress board) for each writer.
 pub record IsReady {S L : Type 0} (channels : Channels S) (board : Option Board) (workers : ℕ) (o : Owned S L) : Type 0
   where
     pub counts : (o.counts.items ≡ []) × (workers ≤ vec_capacity o.counts)
@@ -31,10 +31,10 @@ pub record IsReady {S L : Type 0} (channels : Channels S) (board : Option Board)
     pub seats : AreSeats board 0 workers o.seats.items
 
 -- What the caller's thread has after the workers have ended. The caller's thread has the seats (access tokens) of the
--- progress board again. If all workers were started, the caller's thread has the complete pass (the ghost right to use
--- a channel) of each channel. If all workers were started, the caller's thread also has all parts of the ledger (a
--- ghost count of settled documents). If all workers were started, the caller's thread knows the workers' counts, and
--- the reasons why workers halted.
+-- progress board again. If all workers were started, the caller's thread has, for each channel, all 1,024 parts of the
+-- pass (the ghost right to use the channel). If all workers were started, the caller's thread also has all parts of the
+-- ledger (a ghost count of settled documents). If all workers were started, the caller's thread knows the workers'
+-- counts, and the reasons why workers halted.
 pub record HaveEnded {S L : Type 0} (channels : Channels S) (board : Option Board) (may_stop : Place → Type 0)
     (workers : ℕ) (given : List BoardSeat) (ended : Option (Ended S L)) (seats : List BoardSeat) : Type 0 where
   pub window_seat : IfSome ended (λ e. IsSeatAt (sends_on channels.to_fetchers) e.windows)

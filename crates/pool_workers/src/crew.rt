@@ -24,7 +24,7 @@ use std::sync::Wait;
 use std::sync::ledger::{Ledger, Share};
 use std::thread::{Promise, PromisedHandle, Scope};
 
-/// The guarantee of a fetcher whose thread has ended.
+/// A promise of a fetcher's thread: facts about the fetcher that hold after the thread has ended (`kept_by`).
 #[derive(Drop)]
 pub struct FetcherPromise<'a, S: SourceBrand, G: Gate> {
     pub channels: &'a Channels<S>,
@@ -37,8 +37,8 @@ impl<'a, S: SourceBrand, G: Gate> Promise<Fetcher<S>> for FetcherPromise<'a, S, 
         × IfSome r.stopped (Allows (G.may_stop p.gate.now)) };
 }
 
-/// What is guaranteed about a writer after the writer's thread has ended. If the run has a progress board, the writer
-/// was started with the seat `seat`, an access token to the progress board.
+/// A promise of a writer's thread: facts about the writer that hold after the thread has ended (`kept_by`). If the run
+/// has a progress board, the writer was started with the seat `seat`, an access token to the progress board.
 #[derive(Drop)]
 pub struct WriterPromise<'a, S: SourceBrand, G: Gate> {
     pub channels: &'a Channels<S>,

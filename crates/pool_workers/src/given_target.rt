@@ -40,9 +40,9 @@ impl<F: WriteFilter, T: TargetBrand<F>> GivenTarget<F, T> {
         }
     }
 
-    /// Returns the request for all leaves of a page's rows, if the given target was empty (its update sequence was 0)
-    /// and therefore lacked all these leaves. The call needs no lock. Returns `None` if the update sequence of the
-    /// given target was not 0.
+    /// Returns the request for all leaves of a page's rows, if the update sequence of the given target was 0. A target
+    /// with the update sequence 0 has no documents, and therefore lacks all leaves. The call needs no lock. Returns
+    /// `None` if the update sequence of the given target was not 0.
     pub fn diff<S: SourceBrand>(
         &self,
         alloc: Global,

@@ -15,8 +15,8 @@ use rev_tree::SessionId;
 use std::alloc::{AllocError, Global};
 use std::marker::{Model, PhantomData};
 
-/// The number of bytes by which the heap of a thread grows. `HEAP_STEP` bytes are enough for a parcel of 500 small
-/// documents.
+/// The size in bytes of the block with which `grow_heap` grows the calling thread's heap (the C library's memory arena
+/// for the thread). `HEAP_STEP` bytes are enough for a parcel of 500 small documents.
 const HEAP_STEP: usize = 512 * 1024;
 
 /// The size in bytes of the block that `keep_heaps` frees. After a block of `HEAP_KEPT` bytes was freed, a heap may
@@ -87,7 +87,8 @@ impl<S: SourceBrand> Paged<S> {
         self.ready
     }
 
-    /// Copies the page, but not a shortened copy that `prepare` has built.
+    /// Copies the page. The returned page has no shortened copy of the window, even if `prepare` has built a shortened
+    /// copy for the original page.
     pub fn copy(&self, alloc: Global) -> Result<Paged<S>, AllocError>
         ensures { IfOk result (λ p. p ≡ self.now) }
     {
@@ -99,7 +100,8 @@ impl<S: SourceBrand> Paged<S> {
     }
 }
 
-/// The source's documents for a request. The documents are counted, but not yet read.
+/// A request, and the number of documents that the source would return for the request. A fetcher has determined the
+/// number of requested documents, but no thread has read the requested documents yet.
 #[derive(Drop)]
 pub struct Found<S: SourceBrand> {
     page: Paged<S>,
@@ -283,7 +285,8 @@ fn grow_heap(alloc: Global) {
     }
 }
 
-/// Makes the heap of each thread keep freed memory of the size of a parcel.
+/// Makes the C library keep up to twice `HEAP_KEPT` free bytes at the end of each thread's heap. The memory of a freed
+/// parcel then stays available to the thread.
 ///
 /// By default, the C library releases the free memory at the end of a heap if this memory exceeds 128 KiB. The C
 /// library allocates large blocks directly from the system. After a large block was freed, each heap keeps free memory

@@ -12,7 +12,7 @@ pub enum ParcelMessage<S: SourceBrand> {
     /// A window's documents at the source, with the number of the window. The documents were counted by the fetcher,
     /// and will be read by the writer.
     Parcel { number: u64, fetched: Found<S> },
-    /// The end message of the channel of parcels.
+    /// The message after which a writer receives no further message from the channel of parcels.
     End,
 }
 

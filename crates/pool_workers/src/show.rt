@@ -6,8 +6,8 @@ ghost use Rattle.pool_workers.specs.Boards.{MayFill, IsSeated, IsFullFor, HasRea
 use crate::fault::Halt;
 use progress_board::{Board, BoardSeat};
 
-/// Adds a number of documents to a worker's read counter on the progress board. Returns `BoardFull` if this counter
-/// would exceed 9,007,199,254,740,991.
+/// Adds a number of documents to a worker's read counter on the progress board. Returns `BoardFull` if the addition
+/// would raise the worker's read counter above 9,007,199,254,740,991.
 pub fn show_read(
     board: Option<&Board>,
     seat: &mut Option<BoardSeat>,

@@ -25,9 +25,10 @@ use std::sync::ledger::{Ledger, Share};
 use std::thread;
 use std::thread::{Scope, Threads};
 
-/// What the caller's thread owns before the workers start. The thread owns the complete pass (the ghost right to use a
-/// channel) of each channel, and the complete share of the ledger (a ghost count of settled documents). The thread also
-/// owns the seats (access tokens) of the progress board, and a list with capacity for a count from each fetcher.
+/// What the caller's thread owns before the workers start. For each channel, the caller's thread owns all parts of the
+/// pass, which is the ghost right to use the channel. The caller's thread owns all parts of the ledger, which is a
+/// ghost count of settled documents. The caller's thread also owns the seats (access tokens) of the progress board, and
+/// a list with capacity for a count from each fetcher.
 #[derive(Drop)]
 pub struct Owned<S: SourceBrand, L: Ledger> {
     pub counts: Vec<u64>,
@@ -37,9 +38,10 @@ pub struct Owned<S: SourceBrand, L: Ledger> {
     pub seats: Vec<BoardSeat>,
 }
 
-/// What the caller's thread owns after all workers have ended. The thread owns the complete pass (the ghost right to
-/// use a channel) of each channel, and the complete share of the ledger (a ghost count of settled documents). The
-/// thread also owns the workers' results. If reading the windows ended early, the thread also owns the reason.
+/// What the caller's thread owns after all workers have ended. For each channel, the caller's thread owns all parts of
+/// the pass, which is the ghost right to use the channel. The caller's thread owns all parts of the ledger, which is a
+/// ghost count of settled documents. The caller's thread also owns the workers' results. If reading the windows ended
+/// early, the caller's thread also owns the reason.
 #[derive(Drop)]
 pub struct Ended<S: SourceBrand, L: Ledger> {
     pub windows: WindowPass<S>,

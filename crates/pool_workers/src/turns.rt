@@ -1,9 +1,9 @@
-//! Runs a fetcher and a writer alternately on one thread. If a run has only one fetcher and one writer, both run on the
-//! thread that reads the windows.
+//! Runs a fetcher and a writer alternately on one thread. If the gate never blocks a worker, and a run has only one
+//! fetcher and one writer, both run on the thread that reads the windows.
 //!
 //! One fetcher and one writer on two threads would still settle one document at a time, and would move data between the
-//! processors' caches. For a run with one fetcher and one writer, no thread is therefore started. The caller's thread
-//! fetches and settles each window before it reads the next window.
+//! processors' caches. If the gate never blocks a worker, a run with one fetcher and one writer therefore starts no
+//! thread. The caller's thread then fetches and settles the documents of each window before it reads the next window.
 ghost use Rattle.std.specs.Prelude.{◌≡◌, ℕ, ◌+◌, ◌-◌, ◌<◌, ◌++◌, [], true, Option, None, Some, IfSome, option_copied, option_to_list, vec_capacity};
 ghost use Rattle.crossbeam_channel.specs.Claims.{view, IsSeatAt};
 ghost use Rattle.crossbeam_channel.specs.Ends.{sends_on};

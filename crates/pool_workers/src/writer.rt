@@ -150,8 +150,9 @@ impl<F: WriteFilter, S: SourceBrand, T: TargetBrand<F>, L: Ledger, G: Gate, R: W
         }
     }
 
-    /// Reads a parcel at the source. If several writers settle, the call prepares the parcel's documents before it
-    /// takes the lock. The call then settles the parcel, and records the low water (`settle_and_record`).
+    /// Reads a parcel at the source. If the run has several writers, the call prepares the parcel's documents for
+    /// storing before it takes the target's lock. The call then settles the parcel (stores or rejects each document at
+    /// the target), and records the low water (`settle_and_record`).
     fn read_and_settle(
         &self,
         share: &mut Share<L>,

@@ -42,19 +42,21 @@ added_settled v n =
     seat_view v.deals v.works v.number v.reads (slice_set v.settles v.number (slice_index v.settles v.number + n))
 
 -- A seat (an access token for a progress board) loads the value n from worker i's read counter. The views v and w are
--- the lower bounds of all counters that the seat knows before and after this load. In the view v (before the load), the
--- lower bound of worker i's read counter is at most n, and in the view w (after the load), it is n. If the seat is
--- worker i's own seat, the lower bound of worker i's read counter is n before the load, too.
+-- the lower bounds of all counters that the seat knows before and after this load. Before the seat loads n, the lower
+-- bound that the seat knows for worker i's read counter is at most n. After the seat has loaded n, the lower bound that
+-- the seat knows for worker i's read counter is n. If the seat is worker i's own seat, the lower bound of worker i's
+-- read counter is n before the load, too.
 abbrev pub SeesRead : SeatView → ℕ → ℕ → SeatView → Type 0
 SeesRead v i n w =
     (w ≡ seat_view v.deals v.works v.number (slice_set v.reads i n) v.settles)
     × (slice_index v.reads i ≤ n) × (n ≤ most) × (v.works ≡ true → v.number ≡ i → n ≡ slice_index v.reads i)
 
 -- A seat (an access token for a progress board) loads the value n from worker i's settled counter. The views v and w
--- are the lower bounds of all counters that the seat knows before and after this load. In the view v (before the load),
--- the lower bound of worker i's settled counter is at most n, and in the view w (after the load), it is n. In the view
--- w, the lower bound of worker i's read counter is at least n. If the seat is worker i's own seat, the lower bound of
--- worker i's settled counter is n before the load, too.
+-- are the lower bounds of all counters that the seat knows before and after this load. Before the seat loads n, the
+-- lower bound that the seat knows for worker i's settled counter is at most n. After the seat has loaded n, the lower
+-- bound that the seat knows for worker i's settled counter is n. After the seat has loaded n, the lower bound that the
+-- seat knows for worker i's read counter is at least n. If the seat is worker i's own seat, the lower bound of worker
+-- i's settled counter is n before the load, too.
 abbrev pub SeesSettled : SeatView → ℕ → ℕ → SeatView → Type 0
 SeesSettled v i n w =
     (w ≡ seat_view v.deals v.works v.number (slice_set v.reads i (max (slice_index v.reads i) n))

@@ -21,8 +21,9 @@ seen_read s = sum s.place.me.0.reads
 abbrev pub seen_settled : BoardSeat → ℕ
 seen_settled s = sum s.place.me.0.settles
 
--- A view has the lower bounds of counters that a seat (an access token for a progress board) knows. For each counter,
--- the lower bound in the view v is at most the lower bound in the view w.
+-- A view has a lower bound for each counter of a progress board. The lower bounds in a seat's view come from the values
+-- that the seat (an access token for the board) has loaded or stored. For each counter, the lower bound in the view v
+-- is at most the lower bound in the view w.
 abbrev pub IsLater : SeatView → SeatView → Type 0
 IsLater v w =
     ((j : ℕ) → slice_index v.reads j ≤ slice_index w.reads j)

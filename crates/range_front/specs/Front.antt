@@ -46,7 +46,7 @@ abbrev pub spans_from : ℕ → List FrontWindow → List Span
 spans_from lo [] = []
 spans_from lo (w ∷ ws) = record { lo = lo; hi = w.hi; done = w.done } ∷ spans_from w.hi ws
 
--- The windows of front f in order, each with both bounds.
+-- The windows of front f (a list of adjacent windows) in order, each with its lower and upper bound.
 abbrev pub spans : FrontValue → List Span
 spans f = spans_from f.start f.windows
 

@@ -23,7 +23,8 @@ IsBound from (e ∷ es) x = (from ≡ x) ⊎ IsBound e es x
 
 -- ---- the ranges
 
--- The ranges of done windows rise, and touch neither each other nor the low water `mark`.
+-- Each range of done windows begins above the end of the previous range, and the first range begins above the low water
+-- `mark`. The upper bound of each range is above the range's lower bound.
 abbrev pub Apart : ℕ → List DoneRange → Type 0
 Apart mark [] = Unit {0}
 Apart mark (r ∷ rs) = (mark < r.lo) × (r.lo < r.hi) × Apart r.hi rs

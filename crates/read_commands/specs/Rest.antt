@@ -17,7 +17,7 @@ rest_left s (Conflicts r) = conflicts_left s r.value
 rest_left s (Docs r) = docs_left s r.value
 
 -- The totals that a command has counted so far are the totals of those feed rows of state s that have been processed.
--- The command `docs` counts nothing.
+-- The command `docs` computes no totals.
 abbrev pub FitsRest : State → Rest → Type 0
 FitsRest s (Compare r) = FitsCompare s r.value
 FitsRest s (Conflicts r) = FitsConflicts s r.value

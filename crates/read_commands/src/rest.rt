@@ -9,8 +9,8 @@ use script_databases::Databases;
 use std::alloc::{AllocError, Global};
 
 /// The part of a command's output that is still to be produced. A `Rest` has the names of the databases that it reads,
-/// and does not borrow the databases. The variants of `Rest` are boxed, because each line returns a `Rest`, which must
-/// be small.
+/// and does not borrow the databases. The variants of `Rest` are boxed to keep the type `Rest` small, because the
+/// result of every script line has space for a `Rest`.
 #[derive(Drop)]
 pub enum Rest {
     Compare(Box<CompareRest>),

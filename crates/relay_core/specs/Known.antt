@@ -40,9 +40,9 @@ asked_by run (stages.TargetPut target source checkpoint) = put_log Target (log_v
 asked_by run (stages.SourcePut source checkpoint) = put_log Source (log_view source) (checkpoint_view checkpoint)
 asked_by run (stages.Done fault) = done (option_map fault_view fault) run.counts (begin_of run)
 
--- The next request of the relay in a phase (the state of a run between two requests). If a notice of the phase is not
--- printed yet, the request is to print the next notice. After the phase's last notice, the request is the one that the
--- phase's stage determines (`asked_by`).
+-- The next request of the relay in a phase (the state of a run between two requests). If notices (messages to the user)
+-- of the phase are not printed yet, the relay's next request is to print the first of these notices. If all notices of
+-- the phase are printed, the phase's stage determines the relay's next request (`asked_by`).
 abbrev pub asked_of : Phase → RequestView
 asked_of phase = option_map_or (λ n. tell (notice_view n)) (slice_get phase.notices.items phase.told) (asked_by phase.run phase.stage)
 

@@ -107,7 +107,9 @@ fn start_of(
 }
 
 /// Begins a window (a range of the source's changes) at the newest pair of a session id and a sequence that both logs
-/// have. If the logs have no common pair, the window begins at sequence 0, and both logs record sequence 0 first.
+/// have. If no pair of a session id and a sequence is in both logs, the window begins at sequence 0. If no pair of a
+/// session id and a sequence is in both logs, the run stores a checkpoint at sequence 0 in both logs before it requests
+/// changes.
 fn begin_window(
     alloc: Global,
     run: Run,

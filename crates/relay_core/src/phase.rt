@@ -34,8 +34,8 @@ pub struct Run {
     pub begin: Option<Recorded>,
     /// The sequence up to which the target has, or has refused, each leaf.
     pub since: String,
-    /// Whether the current window (the source's changes since `begin`) is open. The run must record an open window in
-    /// both logs.
+    /// Whether the current window (the source's changes since `begin`) is open. If the window is open, the run must
+    /// still store a checkpoint for the window in both logs.
     pub is_open: bool,
     /// The number of pages with rows in the current window.
     pub pages: u64,

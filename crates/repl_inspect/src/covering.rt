@@ -14,12 +14,12 @@ use doc_json::Chosen;
 use repl_target::{Peer, WriteFilter};
 use std::alloc::{AllocError, Global};
 
-/// Returns the total of the differences between a source's complete or selected feed (the compared feed) and a target.
-/// The call ignores logs, and reads the source's feed in pages.
+/// Returns the totals of the differences between a source's complete or selected feed and a target. The call ignores
+/// logs, and reads the source's feed in pages.
 ///
-/// If no leaf is missing, the target covers the compared feed. If the target covers the compared feed, each missing
-/// leaf is in the ancestry of a document that a session of the target refused. If the target covers the compared feed
-/// and all ledgers of the target are empty, no leaf is missing.
+/// If the target's trees lack no leaf of the source's feed, the target covers the feed. If the target covers the feed,
+/// each leaf of the feed that the target's trees lack is in the ancestry of a document that the target refused. If the
+/// target covers the feed and all ledgers of the target are empty, the target's trees lack no leaf of the feed.
 pub fn compare_feed<F: WriteFilter, G: WriteFilter>(
     alloc: Global,
     source: &Peer<F>,

@@ -1,4 +1,4 @@
-//! Returns a document with an ancestry for each leaf of a stored document.
+//! Returns, for each leaf of a stored document, a document that has the leaf's content and ancestry.
 ghost use Rattle.std.specs.Prelude.{◌≡◌, true, map, IfOk};
 ghost use Rattle.std.specs.List.{list_all};
 ghost use Rattle.rev_tree.specs.Tree.{is_leaf};

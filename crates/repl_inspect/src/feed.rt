@@ -33,7 +33,8 @@ pub fn compare(
     compare_trees(alloc, ours, theirs)
 }
 
-/// Returns the total of the differences between a source's feed and a target's database.
+/// Compares each document in a source's complete or selected feed with a target's database, and returns the totals of
+/// the differences (`Total`).
 pub(crate) fn compare_databases(
     alloc: Global,
     source: &Database,

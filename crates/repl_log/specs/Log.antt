@@ -59,13 +59,13 @@ shared source target = find (λ t. holds source t.session) target
 abbrev pub lesser_of : EntryValue → EntryValue → SessionId × ℕ
 lesser_of t s = (t.session, min s.recorded t.recorded)
 
--- The session of the target's entry t, with the lesser of the session's two recorded sequences, or `None` if the
--- source's log lacks the session.
+-- The session of the target's entry t, and the lesser of the sequences that both logs record for this session. The
+-- result is `None` if the source's log lacks the session.
 abbrev pub checkpoint_at : List EntryValue → EntryValue → Option (SessionId × ℕ)
 checkpoint_at source t = option_map (lesser_of t) (entry_for source t.session)
 
--- The newest session of the target's log that is also in the source's log, with the lesser of the session's two
--- recorded sequences. If no session is in both logs, there is no common checkpoint.
+-- The newest session of the target's log that is also in the source's log, and the lesser of the sequences that both
+-- logs record for this session. If no session is in both logs, there is no common checkpoint.
 abbrev pub common : List EntryValue → List EntryValue → Option (SessionId × ℕ)
 common source target = option_and_then (checkpoint_at source) (shared source target)
 

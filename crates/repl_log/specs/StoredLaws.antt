@@ -99,7 +99,8 @@ module _ {X V : Type 0} (value : X → V) (session : V → SessionId) where
   chosen-always None = refl
   chosen-always (Some x) = refl
 
-  -- Searching a table's values, newest first, for a session finds the value that the table stores for the session.
+  -- In the list of a table's values, newest first, the first value that belongs to session s is the value that the
+  -- table stores for session s.
   pub find-lookup : (s : SessionId) (es : List (SessionId × X)) → IsKeyed own es → EachSessionOnce es → find (named s) (newest_first value es) ≡ option_map value (lookup (at_session s) es)
   find-lookup s es keyed once =
       find-chosen (λ _. true) (named s) s (λ v. sym (and-true (named s v))) es keyed once ∙ chosen-always (lookup (at_session s) es)

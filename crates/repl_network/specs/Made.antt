@@ -45,26 +45,27 @@ IsOneOf among peers place id parent deleted body =
     (p : PeerValue) → IsAt peers place p → (e : RevId × Option RevId) → edited p.db id parent deleted body ≡ Ok e
     → among (record { before = e.1; deleted = deleted; body = body }) ≡ true
 
--- Suppose that only edits of a set made a document. If no two different edits of the set have the same MD5, the
--- document's trees at all peers agree and have complete histories.
+-- Suppose that a document was made only by edits of a given set (`AllMadeBy`). If no two different edits of the set
+-- have the same MD5, the document's trees at all peers agree and have complete histories.
 abbrev pub MadeAgree : List PeerValue → Type 0
 MadeAgree peers =
     (among : EditValue → Bool) → HaveNoCollision among → (id : Id) → AllMadeBy among peers id
     → AllAgree peers id × AllWhole peers id
 
--- A document whose id is not `id`, and that was made only by edits of a set before the call, is made only by these
--- edits after the call.
+-- The call keeps the property `AllMadeBy` (a document was made only by edits of a given set) for every set and for
+-- every document whose id is not `id`.
 abbrev pub StaysMadeExcept : Id → List PeerValue → List PeerValue → Type 0
 StaysMadeExcept id peers peers' =
     (among : EditValue → Bool) (other : Id) → other ≢ id → AllMadeBy among peers other → AllMadeBy among peers' other
 
--- A document that was made only by edits of a set before an edit of document `id` is also made only by edits of the set
--- after this edit. If the document's id is `id`, the edit must fail or be in the set (`IsOneOf`).
+-- An edit of document `id` keeps the property `AllMadeBy` (a document was made only by edits of a given set) for every
+-- set and for every document. For the document `id`, the edit must fail or be in the set (`IsOneOf`).
 abbrev pub StaysMadeByEdit : ℕ → Id → Option RevId → Bool → List ℕ → List PeerValue → List PeerValue → Type 0
 StaysMadeByEdit place id parent deleted body peers peers' =
     (among : EditValue → Bool) (at : Id) → (at ≡ id → IsOneOf among peers place id parent deleted body)
     → AllMadeBy among peers at → AllMadeBy among peers' at
 
--- A document that was made only by edits of a set before the call is also made only by edits of the set after the call.
+-- The call keeps the property `AllMadeBy` (a document was made only by edits of a given set) for every set and for
+-- every document.
 abbrev pub StaysMade : List PeerValue → List PeerValue → Type 0
 StaysMade peers peers' = (among : EditValue → Bool) (id : Id) → AllMadeBy among peers id → AllMadeBy among peers' id

@@ -99,10 +99,10 @@ LeadsEverywhere hops count = (m n : ℕ) → m < count → n < count → Leads h
 
 -- How consecutive hops change a document that each hop's plan selects and no peer has refused. Before the hops, the
 -- peers of the network must be consistent, and the document's trees must agree and have complete histories. If a chain
--- of hops leads from one place to another, the second peer has all revisions of the document that the first peer had.
--- If a chain of hops leads from every place to every other place, the document is the same in all peers. After the
--- hops, the document's trees agree and have complete histories, and each revision in these trees was at some peer
--- before the hops.
+-- of hops (replications) leads from place m to place n, the peer at n gets all revisions of the document that the peer
+-- at m had. If a chain of hops leads from every place to every other place, the document is then the same in all peers.
+-- After the hops, the document's trees agree and have complete histories, and each revision in these trees was at some
+-- peer before the hops.
 pub record Spreads (peers : List PeerValue) (hops : List Hop) (peers' : List PeerValue) (id : Id) : Type 0 where
   pub along : (m n : ℕ) (p q : PeerValue) → IsAt peers m p → IsAt peers' n q → Leads hops m n
       → (r : RevId) → has (tree_of p.db.docs id) r ≡ true → has (tree_of q.db.docs id) r ≡ true

@@ -36,8 +36,8 @@ pub record IsHop {F : Type 0} (refuses : F → Document → Bool) (peers : List 
   pub others : (n : ℕ) → n ≢ hop.from → n ≢ hop.to → slice_get peers' n ≡ slice_get peers n
   pub replicates : Replicates (refuses target.0) source.1 target.1 hop.plan result source_then target_then
 
--- The result of the hop at index `at` of the list of hops. A hop first checks that its two places exist and differ, and
--- then replicates.
+-- The result of one hop (a replication between two peers of a network), which has the index `at` in a list of hops. A
+-- hop first checks that its two places exist and differ, and then replicates.
 pub data TakesHop {F : Type 0} (refuses : F → Document → Bool) (at : ℕ) (peers : List (F × PeerValue)) (hop : Hop)
     : Result Report NetFault → List (F × PeerValue) → Type 0 where
   no_source : length peers ≤ hop.from → TakesHop refuses at peers hop (Err (faults.NoPeer hop.from)) peers

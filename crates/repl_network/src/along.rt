@@ -23,11 +23,11 @@ use std::alloc::Global;
 /// Performs hops (replications between two peers of a network) in order, until a hop fails. Each hop is a call of
 /// `replicate_alone` with the hop's plan.
 ///
-/// If every two peers are consistent (docs/PROFILE.md, "Nets"), they stay consistent, even if the call fails. Suppose
-/// that the call succeeds, each plan selects a document, no peer has refused this document, and the document's trees
-/// agreed and had complete histories before the call. After the call, the trees of the document at all peers still
-/// agree and have complete histories. If chains of hops lead from every peer to every other peer, all peers then have
-/// the same document with the same winner.
+/// If every two peers are consistent (docs/PROFILE.md, "Nets"), they stay consistent, even if the call fails. Let d be
+/// a document that each plan selects and no peer has refused, and whose trees agreed and had complete histories before
+/// the call. If every two peers are consistent and the call succeeds, the trees of document d at all peers still agree
+/// and have complete histories. If chains of hops also lead from every peer to every other peer, all peers have the
+/// same document d with the same winner after the call.
 pub fn replicate_along<F: WriteFilter>(
     alloc: Global,
     peers: &mut [Peer<F>],
@@ -54,9 +54,9 @@ pub fn replicate_along<F: WriteFilter>(
 ///
 /// If every two peers are consistent, they stay consistent, even if the call fails. If the document's trees agreed and
 /// had complete histories before the call, the trees still agree and have complete histories after the call under two
-/// conditions. First, no peer's tree disagrees with the stored document about a revision's parent or content. Second,
-/// the ancestry of the stored document is complete, or the ancestry's oldest revision is in the tree of the peer that
-/// stores the document.
+/// conditions. The first condition is that no revision has different parents or different contents in a peer's tree and
+/// in the stored document. The second condition is that the ancestry of the stored document is complete, or that the
+/// ancestry's oldest revision is in the tree of the peer that stores the document.
 pub fn load_at<F: WriteFilter>(
     peers: &mut [Peer<F>],
     place: usize,
@@ -84,9 +84,9 @@ pub fn load_at<F: WriteFilter>(
 /// Edits a document at one peer of a network (`Peer::edit`).
 ///
 /// If every two peers are consistent, they stay consistent, even if the call fails. The edit keeps the document's trees
-/// in agreement and with complete histories, unless a peer has the new revision with another parent or content. For a
-/// document that only edits made, a peer has the new revision with another parent or content only if two different
-/// edits have the same MD5.
+/// in agreement and with complete histories, unless a peer has the new revision with another parent or content. If all
+/// revisions of the document come from edits, a peer has the new revision with another parent or content only if two
+/// different edits have the same MD5.
 pub fn edit_at<F: WriteFilter>(
     peers: &mut [Peer<F>],
     place: usize,

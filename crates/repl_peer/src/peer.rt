@@ -206,7 +206,8 @@ impl<F: WriteFilter> Peer<F> {
         self.db.page(alloc, since, goal, limit, chosen)
     }
 
-    /// Returns a page of the changes feed, for arguments that `page` accepts (`Database::page_due`).
+    /// Returns a page of the changes feed by calling `Database::page_due`. The caller guarantees that `limit` is above
+    /// 0, `since` is below `goal`, and `goal` is at most the update sequence.
     pub fn page_due(
         &self,
         alloc: Global,
@@ -361,8 +362,8 @@ impl<F: WriteFilter> Peer<F> {
     /// - `CountFull`: a count of the session would exceed 9,007,199,254,740,991.
     /// - `Stopped`: a document could not get a sequence, or an allocation failed. The first `settled` documents of the
     ///   parcel are settled, and the error's field `rest` has the remaining documents.
-    /// - `Uncovered`: the target neither stored nor rejected (covered) a leaf of the window's rows, and the error names
-    ///   the first such leaf. All documents are settled.
+    /// - `Uncovered`: the target does not cover a leaf of the window's rows, because the leaf is neither in the
+    ///   document's tree nor in a session's ledger. The error names the first such leaf. All documents are settled.
     pub fn settle(&mut self, id: SessionId, parcel: Parcel) -> Result<Settled, TargetFault>
         ensures settles { SettleGives (F.refuses self.old.0) self.old.1 id parcel result self.new.1 }
         ensures filter { self.new.0 ≡ self.old.0 }

@@ -57,8 +57,9 @@ pub data IsRecorded (plan : Plan) (fault : Option PoolFault) (complete : Bool) (
       → after ≡ closed before plan → IsRecorded plan fault complete before after (faults.Refused why)
 
 -- The first argument of `UnlessMemory` is the outcome of a run before it stores the session's entry at the source, and
--- the second argument is the run's outcome afterwards. If the first outcome is a success, the second outcome is the
--- same success or `Memory`. If the first outcome is an error, the second outcome is the same error.
+-- the second argument is the run's outcome afterwards. If the run's outcome was a success before the run stored the
+-- session's entry, the outcome afterwards is the same success or `Memory`. If the run's outcome was an error before the
+-- run stored the session's entry, the outcome afterwards is the same error.
 abbrev pub UnlessMemory : Result Report PoolFault → Result Report PoolFault → Type 0
 UnlessMemory (Ok report) result = (result ≡ Ok report) ⊎ (result ≡ Err faults.Memory)
 UnlessMemory (Err why) result = result ≡ Err why
@@ -73,8 +74,9 @@ pub record PutsEntry (source target source' : PeerValue) (plan : Plan) (outcome 
     pub puts : PutsOver source (rep_between source target plan.chosen) entry put source'
     pub done : IfOk outcome (λ _. put ≡ Ok tt)
 
--- The effect of ending a run of the pool. When a run ends, the target concludes or records the session, and the source
--- stores the session's entry as `PutsEntry` says.
+-- The effect of ending a run of the pool. When a run ends, the target either concludes the run's session
+-- (`IsConcluded`) or only records the session's low water (`IsRecorded`). The source then stores the log entry of the
+-- run's session (`PutsEntry`).
 pub data ClosesRun (plan : Plan) (fault : Option PoolFault) (complete : Bool)
     (source before source' after : PeerValue) : Result Report PoolFault → Type 0 where
   concluded : {report : Report} {outcome : Result Report PoolFault}
@@ -86,11 +88,11 @@ pub data ClosesRun (plan : Plan) (fault : Option PoolFault) (complete : Bool)
       → PutsEntry source after source' plan (Err why)
       → ClosesRun plan fault complete source before source' after (Err why)
 
--- The effect of ending a run of the pool, with facts about the run's workers. When a run ends, only calls for the run's
--- session have changed the target `given`, and the windows of this session are pages of the source's feed. A worker
--- halted only if the gate (which decides whether a worker continues) allows the halt, or if a call of the worker
--- failed. If no worker stopped and all sent parcels were received, the session has read as many documents as the
--- fetchers counted.
+-- The effect of ending a run of the pool, with facts about the run's workers. Only calls for the run's session have
+-- changed the target from the state `given` to the state `before`. The windows of the run's session are pages of the
+-- source's feed. A worker halted only if the gate (which decides whether a worker continues) allows the halt, or if a
+-- call of the worker failed. If no worker stopped and all sent parcels were received, the session has read as many
+-- documents as the fetchers counted.
 pub record EndsRun {F : Type 0} (refuses : F → Document → Bool) (may_fill : Type 0) (may_stop : Place → Type 0)
     (plan : Plan) (source : PeerValue) (given : F × PeerValue) (counts : List ℕ) (source' after : PeerValue)
     (outcome : Result Report PoolFault) : Type 0 where

@@ -36,8 +36,9 @@ pub struct Ran<F: WriteFilter> {
     pub target: Peer<F>,
     /// The number of documents that each fetcher counted. The list is empty if no fetcher was started.
     pub fetched: Vec<u64>,
-    /// The board seats that the caller gave to the writers, in the given order. The list is empty after `run`, because
-    /// `run` has no board.
+    /// The board seats (access tokens for the progress board) that the caller gave to the writers, in the given order.
+    /// The list of seats is empty after a call of `run`, because a caller of `run` passes no progress board and no
+    /// seats.
     pub seats: Vec<BoardSeat>,
     /// The report of the plan's session, or the error.
     pub outcome: Result<Report, PoolFault>,
@@ -305,7 +306,8 @@ fn run_with<F: WriteFilter + Send + Sync, G: Gate + Sync, R: Threads + Wait + Sy
 /// the target stays consistent with that peer under the following two conditions (`KeepsOthersTied`). A third peer that
 /// is another source of the target must not have the source's UUID. A third peer that is another target of the source
 /// must not have the target's UUID. If the peers were consistent (docs/PROFILE.md, "Tied peers"), an audit after the
-/// run finds no uncovered leaf (a leaf of the source that the target neither stored nor rejected).
+/// run finds no uncovered leaf. An uncovered leaf is neither in the document's tree at the target nor in the ledger of
+/// a session.
 ///
 /// The call blocks until the run ends. The contract does not guarantee that a run ends.
 ///

@@ -90,8 +90,8 @@ pub fn hole_within<F: WriteFilter, G: WriteFilter>(
     Ok(Audit::Clean)
 }
 
-/// Returns the first leaf of a changed document that the target does not cover. If all leaves of the document are
-/// covered, or the document is not selected, the call returns `Clean`.
+/// Among the leaves of a changed document, returns the first leaf that the target does not cover. If all leaves of the
+/// document are covered, or the document is not selected, the call returns `Clean`.
 fn hole_in<G: WriteFilter>(
     alloc: Global,
     target: &Peer<G>,

@@ -74,12 +74,12 @@ impl Plan {
 /// changes.
 ///
 /// Consistent peers (docs/PROFILE.md, "Tied peers") stay consistent for every selection and every result. An audit of
-/// consistent peers after the call therefore finds no uncovered leaf (a leaf of the source that the target neither
-/// stored nor rejected). If the peers are consistent and the call succeeds, each leaf of the source's complete selected
-/// feed is covered, including leaves below the start. A third peer that was consistent with the source or the target
-/// stays consistent with that peer, under two conditions (`KeepsOthersTied`). If the third peer is another source of
-/// the target, the third peer's UUID must not be the source's UUID. If the third peer is another target of the source,
-/// the third peer's UUID must not be the target's UUID.
+/// consistent peers after the call therefore finds no uncovered leaf. An uncovered leaf is neither in the document's
+/// tree at the target nor in the ledger of a session. If the peers are consistent and the call succeeds, each leaf of
+/// the source's complete selected feed is covered, including leaves below the start. A third peer that was consistent
+/// with the source or the target stays consistent with that peer, under two conditions (`KeepsOthersTied`). If the
+/// third peer is another source of the target, the third peer's UUID must not be the source's UUID. If the third peer
+/// is another target of the source, the third peer's UUID must not be the target's UUID.
 ///
 /// # Errors
 ///

@@ -20,8 +20,8 @@ use Rattle.repl_peer.specs.declared.fault.TargetFault.{TargetFault}
 use Rattle.repl_world.specs.Bags.{IsBag}
 use Rattle.repl_world.specs.Worlds.{WorldValue, rep_of}
 
--- The invariants of three parts of world w: the source's database, the target, and the bag. The types of the three
--- parts guarantee the invariants.
+-- The invariants of three parts of world w: the source's database, the target, and the bag of messages. The types of
+-- the three parts guarantee the invariants.
 pub record IsWorld (refuses : Document → Bool) (w : WorldValue) : Type 0 where
   pub source : LawfulDatabase w.source.db
   pub target : Lawful refuses w.target
@@ -29,10 +29,10 @@ pub record IsWorld (refuses : Document → Bool) (w : WorldValue) : Type 0 where
 
 -- ---- tied worlds
 
--- The bag of messages has a window at index `place`. `OwnAsked` states that the request `a` is consistent with the
--- window at `place`, if the window has the current life (a number that each restore raises) of the source's database.
--- `OwnParcel` states that the parcel `p` is consistent with the window at `place`, if the window has the current life
--- of the source's database.
+-- The bag of messages has a window at index `place`. The window and the source's database each have a life (a number
+-- that each restore of the source raises). If the window at index `place` and the source's database have the same life,
+-- `OwnAsked` states that the request `a` is consistent with the window. If the window at index `place` and the source's
+-- database have the same life, `OwnParcel` states that the parcel `p` is consistent with the window.
 pub record OwnAsked (w : WorldValue) (place : ℕ) (a : AskedValue) : Type 0 where
   pub window : WindowValue
   pub own : slice_get w.bag.windows place ≡ Some window
@@ -46,20 +46,20 @@ pub record OwnParcel (w : WorldValue) (place : ℕ) (p : ParcelValue) : Type 0 w
 pub record Tied (w : WorldValue) : Type 0 where
   -- The target of the world is consistent with the source and with each backup of the source.
   pub peers : IsTiedWith w.backups w.source w.target w.chosen
-  -- The life (a number that each restore raises) of each window or log in the bag is at most the life of the source's
-  -- database.
+  -- The life (a number that each restore raises) of each window or log in the bag of messages is at most the life of
+  -- the source's database.
   pub window_lives : (x : WindowValue) → Among x w.bag.windows → x.life ≤ w.source.db.life
   pub log_lives : (g : ℕ × List EntryValue) → Among g w.bag.logs → g.0 ≤ w.source.db.life
-  -- If a window in the bag has the current life of the source's database, the window is consistent with this database.
-  -- If the window of a request or parcel in the bag has the current life of the source's database, the request or
-  -- parcel is consistent with the window.
+  -- If a window in the bag of messages has the current life of the source's database, the window is consistent with
+  -- this database. If the window of a request or parcel in the bag of messages has the current life of the source's
+  -- database, the request or parcel is consistent with the window.
   pub windows : (x : WindowValue) → Among x w.bag.windows → x.life ≡ w.source.db.life
       → IsTiedWindow w.source.db w.chosen x
   pub asked : (a : ℕ × AskedValue) → Among a w.bag.asked → OwnAsked w a.0 a.1
   pub parcels : (p : ℕ × ParcelValue) → Among p w.bag.parcels → OwnParcel w p.0 p.1
   pub logs : (g : ℕ × List EntryValue) → Among g w.bag.logs → g.0 ≡ w.source.db.life
       → AreTiedEntries w.source.db w.target (rep_of w) g.1
-  -- Each log entry in the bag comes from a session of the target.
+  -- Each log entry in the bag of messages comes from a session of the target.
   pub entries : (e : EntryValue) → Among e w.bag.entries → IsSentEntry w.target e
 
 -- The target has no session of the replication from the source for the selection `chosen`, and the source has no log
@@ -70,9 +70,9 @@ pub record HoldNone (source target : PeerValue) (chosen : Choice) : Type 0 where
 
 -- ---- guarantees of tied worlds
 
--- If the session has the parcel's window, and the window and the source's database have the same life, settling the
--- parcel never returns `Uncovered`. The window and the source's database have the same life if the database was not
--- restored after it produced the window, because each restore raises the life.
+-- Settling a parcel of the bag never returns `Uncovered` if the session has the parcel's window and this window has the
+-- source's current life. A window has the source's current life if the source's database was not restored after it
+-- produced the window, because each restore raises the life.
 abbrev pub NeverUncovered : (Document → Bool) → WorldValue → Type 0
 NeverUncovered refuses w =
     (p : ℕ × ParcelValue) → Among p w.bag.parcels

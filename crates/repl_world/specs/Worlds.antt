@@ -3,12 +3,12 @@
 --
 -- A replication exchanges messages: pages of the source's feed, requests for what the target lacks, parcels of
 -- documents, and log entries. Messages between two databases may be late, repeated, reordered or lost. A world has two
--- peers, and every message that was sent and not lost. A step is one call on a peer, with any message of the bag. A
--- message stays in the bag when a step uses it, so later steps can use the message in any order. A world has backups of
--- the source. Restoring a backup raises the life (a number) of the source's database. A crash deletes all messages, but
--- does not change the peers and the backups. Every exchange of messages between the two databases is a list of steps,
--- even if other clients write to the databases during the exchange. A statement that is true after every list of steps
--- is therefore true after every exchange of messages.
+-- peers, and every message that was sent and not lost. A step is one call on a peer, with any message of the bag of
+-- messages. A message stays in the bag of messages when a step uses it, so later steps can use the message in any
+-- order. A world has backups of the source. Restoring a backup raises the life (a number) of the source's database. A
+-- crash deletes all messages, but does not change the peers and the backups. Every exchange of messages between the two
+-- databases is a list of steps, even if other clients write to the databases during the exchange. A statement that is
+-- true after every list of steps is therefore true after every exchange of messages.
 use Rattle.std.specs.Prelude.{◌≡◌, ◌⊎◌, ℕ, ◌==◌, ◌≤◌, List, [], ◌∷◌, ◌++◌, Bool, if◌then◌else◌, Option, Some, None, IfSome, Result, Ok, Err, take, slice_get}
 use Rattle.rev_tree.specs.declared.origin.SessionId.{SessionId}
 use Rattle.doc_json.specs.Document.{Document}
@@ -87,8 +87,9 @@ abbrev pub settles : (Document → Bool) → WorldValue → SessionId → Option
 settles refuses w session None = w
 settles refuses w session (Some p) = record w { target = after_settle refuses w.target session p.1 }
 
--- The world after a step settled documents of a parcel, and then ran out of memory. The step has settled the first n
--- documents of the parcel, but never more documents than the step would settle without a failed allocation.
+-- The world after a step settled documents of a parcel, and then ran out of memory. The settled documents are the first
+-- documents of the parcel. The number of settled documents is the lesser of n and the number that the step would settle
+-- if no allocation failed.
 abbrev pub stops : (Document → Bool) → WorldValue → SessionId → ℕ → Option (ℕ × ParcelValue) → WorldValue
 stops refuses w session n None = w
 stops refuses w session n (Some p) = record w { target = after_some refuses w.target session p.1 n }
@@ -97,14 +98,14 @@ stops refuses w session n (Some p) = record w { target = after_some refuses w.ta
 abbrev pub entry_in : PeerValue → SessionId → Result EntryValue TargetFault
 entry_in p session = session_answer p session (λ (s : SessionValue). Ok (entry_of s))
 
--- The world after a session of the target is recorded and the session's new entry is added to the bag.
+-- The world after a session of the target is recorded and the session's new entry is added to the bag of messages.
 abbrev pub records : WorldValue → SessionId → ℕ → WorldValue
 records w session at =
     let now = after_record w.target session at in
     record w { target = now; bag = told w.bag (entry_in now session) }
 
--- The world after a session of the target is concluded. If concluding a session succeeds, the session's entry is added
--- to the bag.
+-- The world after the target was asked to conclude a session. If the target concludes the session without an error, the
+-- session's log entry is added to the bag of messages.
 abbrev pub concludes : WorldValue → SessionId → ℕ → WorldValue
 concludes w session at =
     let now = after_conclude w.target session at in
@@ -125,7 +126,7 @@ log_of_source w = (w.source.db.life, source_log w.source (rep_of w))
 abbrev pub reads_log : WorldValue → WorldValue
 reads_log w = record w { bag = with_log w.bag (log_of_source w) }
 
--- The common checkpoint that a log in the bag and the target's log have, if there is one.
+-- The common checkpoint that a log in the bag of messages and the target's log have, if there is one.
 abbrev pub agreed : WorldValue → List EntryValue → Option (SessionId × ℕ)
 agreed w log = common log (target_log w.target (rep_of w))
 

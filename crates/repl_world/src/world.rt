@@ -137,8 +137,9 @@ impl<F: WriteFilter> World<F> {
     /// message bag has no message at the step's index. If an allocation fails, the failed step changes nothing, except
     /// that a step that settles a parcel may have settled documents of the parcel (`Stopped`).
     ///
-    /// A consistent world stays consistent. The target of a consistent world covers the source's current feed up to
-    /// each sequence that the logs of both sides claim.
+    /// If a world (two peers and the messages between them) is consistent before the steps, it is consistent after the
+    /// steps. The target of a consistent world covers the source's current feed up to each sequence that the logs of
+    /// both sides claim.
     pub fn run(&mut self, alloc: Global, steps: &[Step]) -> Result<(), AllocError>
         ensures filters { self.new.0 ≡ self.old.0 }
         ensures ok { OnOk result (self.new.1 ≡ run (F.refuses self.old.0.1) self.old.1 steps.now) }

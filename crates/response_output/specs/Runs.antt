@@ -100,9 +100,9 @@ Breaks (Device fault) s w part bytes held held' = Begins fault s w part bytes he
 -- ---- the stored parser
 
 -- The program's parser has the state r, and a parser that stores each byte would have the state s. The text `part`, the
--- beginning of the next item, was written already. If the current document is long, `front` is the output for the
--- document's beginning, but without the bytes that the program's parser did not store. The program's parser had stored
--- `at` bytes of the document when `front` was built.
+-- beginning of the next item, was written already. The program's parser does not store all bytes of a long document. If
+-- the current document is long, `front` is the output for the first `at` bytes of the document that the program's
+-- parser stored.
 pub data Tracks (s r : State) (front : List ℕ) (at : ℕ) (w : Words) (part : List ℕ) : Type 0 where
   tracks_whole : Like s r → front ≡ [] → part ≡ [] → Tracks s r front at w part
   tracks_long : (cut : LongCut) (name : Name) → Mirrors cut name s r → front ≡ cut.front → at ≡ length cut.stored → (length front == 0) ≡ false
@@ -111,7 +111,7 @@ pub data Tracks (s r : State) (front : List ℕ) (at : ℕ) (w : Words) (part : 
 
 -- The parser read the list `bytes`, and the items that end in `bytes` were written. Before the parser read `bytes`, the
 -- beginning `part` of an unfinished item had already been written. After the parser has read `bytes`, the beginning
--- `part'` of the next unfinished item has already been written.
+-- `part'` of the item that is unfinished after `bytes` (perhaps still the same item) has already been written.
 pub record Feeds (s : State) (w : Words) (part bytes : List ℕ) (r' : State) (front' : List ℕ) (at' : ℕ) (w' : Words) (held held' : Option (List ℕ)) : Type 0 where
   pub part' : List ℕ
   pub tracks : Tracks (after s bytes) r' front' at' w' part'
@@ -201,14 +201,15 @@ Stopped wanted w left held held' (Device fault) =
     (read : List ℕ) × IsLeft wanted left read
     × (Begins fault (start wanted) w [] read held held' ⊎ EndsInPart fault (all_text w (pieces (start wanted) read)) held held')
 
--- What a conversion of any input guarantees, for each result of the conversion.
+-- What a conversion of CouchDB's responses has read and written if the conversion ends with the given result. The
+-- definition `Answered` describes a success, and the definition `Stopped` describes an error.
 abbrev pub Converts : Result ℕ AnswerFault → Wanted → Words → Option (List ℕ) → Option (List ℕ) → Option (List ℕ) → Type 0
 Converts (Ok passed) wanted w left held held' = Answered wanted w left held held' passed
 Converts (Err fault) wanted w left held held' = Stopped wanted w left held held' fault
 
--- What a conversion of responses with the given items guarantees: the input is not rejected, and if the conversion
--- succeeds, the items are written. After the error `LateMember`, the first items are written, and then the text
--- `begun`, which belongs to a part of the next item.
+-- What a conversion guarantees if its input consists of responses with the given items. The conversion does not reject
+-- the input. If the conversion succeeds, it has written all items. After the error `LateMember`, the first items are
+-- written, and then the text `begun`, which belongs to a part of the next item.
 abbrev pub ReadsAnswers : Words → List Piece → Option (List ℕ) → Option (List ℕ) → Result ℕ AnswerFault → Type 0
 ReadsAnswers w all held held' (Ok passed) = Appends held held' (all_text w all)
 ReadsAnswers w all held held' (Err (Refused why at)) = ⊥
@@ -220,7 +221,8 @@ ReadsAnswers w all held held' (Err (Device fault)) = ⊤
 -- The error `Read` means that the writer did not fail, and that either the reader failed or the maximum number of reads
 -- was reached. The error `Write` means that the writer failed, and that the reader did not fail. An error other than
 -- `Read` and `Write` means that neither the reader nor the writer failed. The reader's reads, the reader's failures and
--- the writer's failures are counted in `reads`, `reader` and `writer`. A prime marks a count after the call.
+-- the writer's failures are counted in `reads`, `reader` and `writer`. The counts after the call are `reads'`,
+-- `reader'` and `writer'`.
 abbrev pub CountsOf : AnswerFault → ℕ → ℕ → ℕ → ℕ → ℕ → ℕ → Type 0
 CountsOf (Refused why at) reads reads' reader reader' writer writer' = (reader' ≡ reader) × (writer' ≡ writer)
 CountsOf (LateMember at) reads reads' reader reader' writer writer' = (reader' ≡ reader) × (writer' ≡ writer)

@@ -412,8 +412,8 @@ fn run_chunks<R: ScriptRead, W: ScriptWrite>(
 ///
 /// - `Refused`: the input is not a response. All items before the rejected byte have been written. If the rejected byte
 ///   is in a long document, the beginning of this document may also have been written.
-/// - `LateMember`: in a long document, a member `_id`, `_rev`, `_revisions` or `_deleted` follows an attachment. All
-///   items before this document, and the beginning of this document, have been written.
+/// - `LateMember`: a long document has ended in which a member `_id`, `_rev`, `_revisions` or `_deleted` follows an
+///   attachment. All items before this document, and the beginning of this document, have been written.
 /// - `Device`: the reader, the writer or an allocation failed. The fault in `Device` is `Read` if the reader failed in
 ///   this call, or after 4,294,967,295 reads of at most 65,536 bytes. The fault in `Device` is `Write` if the writer
 ///   failed in this call, and `Memory` if an allocation failed.

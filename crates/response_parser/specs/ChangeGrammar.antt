@@ -21,7 +21,8 @@ pub data AreRevs : List ℕ → List Piece → Type 0 where
 abbrev pub is_word_byte : ℕ → Bool
 is_word_byte b = not (b == 10 || b == 32)
 
--- Lines of a script's output with their line ends, and the id and the revisions of each change.
+-- The given bytes are lines of a script's output, each with its line end. The given pieces are the document ids and the
+-- revisions in the `change` lines of this output, in order.
 pub data AreChanges : List ℕ → List Piece → Type 0 where
   none : AreChanges [] []
   empty : {b : ℕ} {t : List ℕ} {ps : List Piece} → is_space b ≡ true → AreChanges t ps → AreChanges (b ∷ t) ps

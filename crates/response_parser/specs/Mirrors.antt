@@ -92,8 +92,8 @@ pub record Mirrors (cut : Cut) (name : Name) (full stored : State) : Type 0 wher
   pub stored_length : long ≤ length cut.stored
   pub log : is_plain name ≡ true → is_log cut.stored ≡ false
 
--- Two states after a parser has rejected a byte of a document whose output has begun: `full` if the parser stored each
--- byte, and `stored` if the parser did not store runs (parts of strings).
+-- A parser has rejected a byte of a document, after a part of the document's output was written. The parser has the
+-- state `full` if it stores each byte, and the state `stored` if it does not store runs (parts of strings).
 pub record Rejected (cut : Cut) (full stored : State) : Type 0 where
   pub like : Like full stored
   pub refused : is_refused stored.place ≡ true

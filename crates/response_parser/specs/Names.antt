@@ -1,4 +1,4 @@
--- Defines the meaning of a member's name, as specified in docs/PROFILE.md, "CouchDB's answers".
+-- Defines what the name of a JSON member means to the parser, as specified in docs/PROFILE.md, "CouchDB's answers".
 use Rattle.std.specs.Prelude.{ℕ, ◌||◌, ◌&&◌, ◌==◌, List, Bool, true, false, cond, codes, Option, Some, None}
 use Rattle.std.specs.Str.{bytes_eq}
 use Rattle.response_parser.specs.declared.place.Wanted.{Wanted}
@@ -12,7 +12,7 @@ use Rattle.response_parser.specs.declared.place.Found.TheVariants as found
 
 -- ---- names with quotation marks
 
--- The meaning of a JSON member's name t if documents are extracted from the response. The flag `first` says
+-- What the name t of a JSON member means if the parser extracts documents from a response. The flag `first` says
 -- whether the name t is the first name of its object.
 abbrev pub document_name : Bool → List ℕ → Name
 document_name first t =
@@ -22,10 +22,10 @@ document_name first t =
     (cond (bytes_eq t (codes "\"missing\"") || bytes_eq t (codes "\"error\"")) Passed
     (cond (bytes_eq t (codes "\"last_seq\"")) Last Other))))
 
--- The meaning of a name t if leaves are requested. If leaves are requested, only the name `rev` has a meaning in a
--- document's list of revisions. If leaves are requested, only the name `missing` has a meaning in the entry of a
--- document. The flags `inner` and `entry` say whether a name is in a document's list of revisions or in a document's
--- entry.
+-- What the name t of a JSON member means if the parser extracts leaves (document ids and revisions) from a response. If
+-- leaves are requested, only the name `rev` has a meaning in a document's list of revisions. If leaves are requested,
+-- only the name `missing` has a meaning in the entry of a document. The flags `inner` and `entry` say whether a name is
+-- in a document's list of revisions or in a document's entry.
 abbrev pub leaf_name : Bool → Bool → List ℕ → Name
 leaf_name inner entry t =
     cond entry (cond (bytes_eq t (codes "\"missing\"")) Missing Other)
@@ -35,7 +35,7 @@ leaf_name inner entry t =
     (cond (bytes_eq t (codes "\"changes\"")) Changes
     (cond (bytes_eq t (codes "\"last_seq\"")) Last Other)))))
 
--- The meaning of a member's name t if the caller requests the changes that are listed in the output of a script.
+-- What the name t of a JSON member means if the parser extracts the changes that a script's output lists.
 abbrev pub change_name : Bool → List ℕ → Name
 change_name first t = cond (first && bytes_eq t (codes "\"_id\"")) Plain Foreign
 

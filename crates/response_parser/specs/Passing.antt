@@ -18,10 +18,10 @@ pub record IsLong (name : Name) (s : State) : Type 0 where
   pub length_is : long ≤ length s.text
   pub log : is_plain name ≡ true → is_log s.text ≡ false
 
--- A run (bytes of a string that the parser does not store) may follow the text of the state s. A front is the beginning
--- of a document's output. Either the text has not grown since its front was built, and the front stays the same, or a
--- new front is built, which begins with the earlier front. The other arguments of `FollowsFront` are the earlier and
--- the later front, each with the length of the text from which the front was built.
+-- A run (bytes of a string that the parser does not store) may follow the text of the state s. The parser may keep the
+-- front (the beginning of a document's output) if the front is not empty and the stored text has not grown since the
+-- front was built. A new front that the parser builds must begin with the earlier front. The other arguments of
+-- `FollowsFront` are the earlier and the later front, each with the length of the text from which the front was built.
 abbrev pub FollowsFront : State → List ℕ → ℕ → List ℕ → ℕ → Type 0
 FollowsFront s front at front' at' =
     (((length front == 0) ≡ false) × (length s.text ≡ at) × (front' ≡ front) × (at' ≡ at))

@@ -97,7 +97,8 @@ impl Reading {
         }
     }
 
-    /// Closes an object without members. If a `_revs_diff` response is an empty object, no revision is missing.
+    /// Reads the closing bracket of an object without members. If a `_revs_diff` response is an empty object, no
+    /// revision is missing.
     pub(crate) fn close_empty(&mut self)
         ensures { state_of self.new ≡ empty_closed (state_of self.old) }
     {
@@ -105,8 +106,8 @@ impl Reading {
         self.close_object();
     }
 
-    /// Opens the entry of a document in a `_revs_diff` response. The entry is the value of a member whose name is the
-    /// document's id.
+    /// Reads the opening bracket of a document's entry in a `_revs_diff` response. The entry is the value of a member
+    /// whose name is the document's id.
     pub(crate) fn open_entry(&mut self)
         ensures { state_of self.new ≡ entry_opened (state_of self.old) }
     {
@@ -156,7 +157,8 @@ impl Reading {
         }
     }
 
-    /// Opens a response that is a list.
+    /// Reads the opening bracket of a response that is a JSON list. The parser rejects the list if the caller requested
+    /// changes.
     pub(crate) fn open_list(&mut self)
         ensures { state_of self.new ≡ list_opened (state_of self.old) }
     {

@@ -25,8 +25,8 @@ const RUN: usize = 1_024;
 const SHARE: u64 = 4;
 
 /// The beginning of the current document's output, called the front. The caller writes the front (the beginning of a
-/// document's output) before the document ends. The front is empty if the caller has not yet written a byte of the
-/// current document's output.
+/// document's output) before the document ends. The front, which is the beginning of a document's output, is empty if
+/// the caller has not yet written a byte of the current document's output.
 #[derive(Drop)]
 pub struct Front {
     text: Vec<u8>,
@@ -90,8 +90,8 @@ impl Front {
     }
 
     /// Whether a run of `count` bytes (string bytes that are passed on without being stored) may follow the stored
-    /// text. If the stored text has grown since the front (the beginning of the document's output) was built, the call
-    /// builds the front again, within the limits of `RUN` and `SHARE`.
+    /// text. The front is the beginning of the document's output. If the front is empty, or the stored text has grown
+    /// since the front was built, the call builds the front, within the limits of `RUN` and `SHARE`.
     fn may_pass(&mut self, reading: &mut Reading, count: usize) -> Result<bool, AllocError>
         ensures same { OnOk result (state_of reading.new ≡ state_of reading.old) }
         ensures none { IfOk result (λ ok. ok ≡ false → (front_of self.new ≡ front_of self.old)
@@ -141,8 +141,8 @@ impl Reading {
         }
     }
 
-    /// Builds the beginning of the current document's output. Returns `false` if no run (string bytes that are passed
-    /// on without being stored) may follow the stored text.
+    /// Builds the beginning of the current document's output. Returns `true` only if a run (string bytes that are
+    /// passed on without being stored) may follow the stored text.
     fn make_front(&mut self) -> Result<bool, AllocError>
         ensures same { OnOk result (state_of self.new ≡ state_of self.old) }
         ensures starts { IfOk result

@@ -88,7 +88,7 @@ impl Reading {
         }
     }
 
-    /// Ends the first word of a line of a script's output.
+    /// Reads the byte (a blank or a line end) after the first word of a line of a script's output.
     fn end_word(&mut self, byte: u8)
         ensures { state_of self.new ≡ word_ended (state_of self.old) byte }
     {

@@ -9,7 +9,6 @@ use crate::place::{Found, Place, Refusal, Wanted};
 use crate::spelling::more;
 use crate::wanted::first_place;
 use doc_envelope::Envelope;
-use json::Scratch;
 use std::alloc::{AllocError, Global};
 
 /// The state of the parser of responses between two bytes.
@@ -45,7 +44,6 @@ pub struct Reading {
     pub(crate) passed: u64,
     /// The number of bytes that the parser has read.
     pub(crate) taken: u64,
-    pub(crate) scratch: Scratch,
     pub(crate) envelope: Envelope,
 }
 
@@ -71,7 +69,6 @@ impl Reading {
             found: Found::Nothing,
             passed: 0,
             taken: 0,
-            scratch: Scratch::new(alloc),
             envelope: Envelope::new(alloc),
         }
     }

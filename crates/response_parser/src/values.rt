@@ -29,10 +29,7 @@ impl Reading {
         if self.wanted == Wanted::Unfolded && is_printed_envelope(self.text.as_slice()) {
             return Ok(true);
         }
-        let Ok(text) = simdutf8::basic::from_utf8(self.text.as_slice()) else {
-            return Ok(false);
-        };
-        json::is_valid(text, &mut self.scratch)
+        self.envelope.is_json_text(self.text.as_slice())
     }
 
     /// Reads a byte of a member's value.

@@ -1,5 +1,5 @@
--- Defines ancestries, as specified in docs/PROFILE.md, "Ancestries". An ancestry is the value of a document's member
--- `_revisions` (CouchDB, "Replication Protocol").
+-- Defines ancestries, as specified in docs/PROFILE.md, "Ancestries". A document's member `_revisions` (CouchDB,
+-- "Replication Protocol") represents an ancestry.
 use Rattle.std.specs.Prelude.{◌≡◌, ℕ, ◌+◌, ◌-◌, ◌<◌, Bool, List, [], ◌∷◌, length, Option, Some, None, Result, Ok, Err, if◌then◌else◌, nat_lt, ◌==◌}
 use Rattle.std.specs.List.{AllByRecursion, list_any}
 use Rattle.std.specs.Ordering.{eq_by_cmp}
@@ -38,7 +38,8 @@ has_parent edges r = list_any (λ (e : RevId × RevId). eq_by_cmp rev_cmp r e.1)
 abbrev pub is_among : RevId → List RevId → Bool
 is_among r revs = list_any (eq_by_cmp rev_cmp r) revs
 
--- The revisions with the given signatures, in order. The generations of the revisions fall by one from `start`.
+-- The revisions that have the given signatures, in the order in which the signatures are listed. The first revision has
+-- the generation `start`, and each further revision's generation is one less than the previous revision's generation.
 abbrev pub numbered : ℕ → List (List ℕ) → List RevId
 numbered start [] = []
 numbered start (sig ∷ sigs) = record { generation = start; sig = sig } ∷ numbered (start - 1) sigs

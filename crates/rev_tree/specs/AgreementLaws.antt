@@ -81,8 +81,8 @@ leaf_kept old other t grown l top there =
       | inr none ↦ and_from _ _ there (ap not none)
     ]
 
--- If tree `other` has all leaves of tree `old`, and tree t has grown from `old` by data of `other`, then `other` has
--- all leaves of t.
+-- Adding data of tree `other` to tree `old` gives tree t (`IsGrownBy`). If tree `other` has all leaves of tree `old`,
+-- then `other` also has all leaves of tree t.
 pub leaves_known : (old other t : TreeValue) → IsGrownBy old other t → ((l : RevId) → is_leaf old l ≡ true → has other l ≡ true) → (l : RevId) → is_leaf t l ≡ true → has other l ≡ true
 leaves_known old other t grown all l top =
     elim (grown.revs l (and_parts _ _ top).0) [
@@ -90,8 +90,8 @@ leaves_known old other t grown all l top =
       | inr there ↦ there
     ]
 
--- Theorems about growth in both directions: tree b has grown into b' by data of a, and then a has grown into a' by data
--- of b'.
+-- Theorems about two trees, each of which grows by data of the other tree. Adding data of tree a to tree b gives tree
+-- b', and then adding data of tree b' to tree a gives tree a'.
 module _ (a b b' a' : TreeValue) (there : IsGrownBy b a b') (back : IsGrownBy a b' a') where
   pub Agree-grown : Agree a b → Agree a' b'
   Agree-grown agree = record {

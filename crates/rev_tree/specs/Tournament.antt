@@ -1,6 +1,6 @@
 -- Defines the tournament that finds the winner of a revision tree: a binary tree of matches between the leaves, which
--- are the players. A player is stored as the index of its node, counted from 1. The number 0 is stored if an index has
--- no player.
+-- are the players. A player (a leaf) is stored as the index of its node, counted from 1. At an index of the tournament
+-- that has no player (leaf), the number 0 is stored.
 use Rattle.std.specs.Prelude.{◌≡◌, ℕ, zero, suc, ◌-◌, ◌/◌, ◌<◌, ◌≤◌, ◌^◌, ◌⊎◌, Bool, true, false, cond, List, length, get_or, Option, Some, None, is_some, option_map, nat_lt, slice_get}
 use Rattle.std.specs.declared.cmp.Ordering.{Ordering}
 use Rattle.std.specs.Ordering.{is_lt, bool_cmp, ordering_then}
@@ -21,7 +21,8 @@ key_of n = (deletes n, n.rev)
 abbrev pub key_cmp : Key → Key → Ordering
 key_cmp a b = ordering_then (bool_cmp a.0 b.0) (rev_cmp b.1 a.1)
 
--- The second of two players does not go before the first player in the winner's order.
+-- In the winner's order, the first of two keys comes before the second key, or equals it. The key `None` of a missing
+-- leaf comes last.
 abbrev pub IsBefore : Option Key → Option Key → Type 0
 IsBefore x None = Unit {0}
 IsBefore None (Some b) = ⊥
@@ -53,7 +54,7 @@ pub record IsHeld (nodes : List NodeValue) (winners : List ℕ) (entered : ℕ) 
   pub contents : (i p : ℕ) (n : NodeValue) → get_or winners i 0 ≡ suc p → slice_get nodes p ≡ Some n → is_some n.content ≡ true
   pub leaves : (j : ℕ) (n : NodeValue) → j < entered → slice_get nodes j ≡ Some n → n.has_child ≡ false → is_some n.content ≡ true
 
--- In each match of a tournament except match x, neither player goes before the stored winner of the match, in the
+-- In each match of a tournament except match x, no player (leaf) of the match comes before the stored winner in the
 -- winner's order.
 pub record IsPlayed (nodes : List NodeValue) (winners : List ℕ) (entered x : ℕ) : Type 0 where
   pub held : IsHeld nodes winners entered
@@ -65,13 +66,14 @@ pub record IsEntry (nodes : List NodeValue) (winners : List ℕ) (entered k w : 
   pub within : w ≤ entered
   pub content : (p : ℕ) (n : NodeValue) → w ≡ suc p → slice_get nodes p ≡ Some n → is_some n.content ≡ true
 
--- The player w is `one` or `other`, and neither `one` nor `other` goes before w in the winner's order.
+-- The stored number w is `one` or `other`, and represents the one of these two players (leaves) that comes first in the
+-- winner's order.
 pub record IsWinnerOf (nodes : List NodeValue) (one other w : ℕ) : Type 0 where
   pub either : (w ≡ one) ⊎ (w ≡ other)
   pub first : IsBefore (entry nodes w) (entry nodes one)
   pub second : IsBefore (entry nodes w) (entry nodes other)
 
--- The node at index `place` is a leaf, and no leaf goes before this node in the winner's order.
+-- The node at index `place` is a leaf, and no leaf comes before this node in the winner's order.
 pub record IsBestLeaf (nodes : List NodeValue) (place : ℕ) : Type 0 where
   pub node : NodeValue
   pub at : slice_get nodes place ≡ Some node

@@ -1,4 +1,4 @@
--- Converts the bytes of a string to an integer.
+-- Defines the integer that the first bytes of a string represent in big-endian order.
 use Rattle.std.specs.Prelude.{ℕ, zero, suc, ◌+◌, ◌*◌, ◌^◌, List, [], ◌∷◌}
 
 -- The first n bytes of a string as a big-endian integer. A string of fewer than n bytes is padded with zeros at its

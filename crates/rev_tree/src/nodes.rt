@@ -217,8 +217,8 @@ fn mark_of(rev: &Rev) -> u64
     hasher.finish().wrapping_add(u64::from(rev.generation()))
 }
 
-/// Returns the position of a revision's node in a list of nodes. Each node must be one generation below the previous
-/// node.
+/// Returns the position of a revision's node in a list of nodes. Each node's generation must be one less than the
+/// previous node's generation.
 #[inline(never)]
 fn fallen_to(nodes: &[Node], rev: &Rev) -> Option<usize>
     requires some { 0 < length nodes.now }
@@ -254,8 +254,8 @@ fn walked_to(nodes: &[Node], rev: &Rev) -> Option<usize>
     None
 }
 
-/// Extends the index of the first `known` nodes to the index of all nodes. The caller has reserved the space that the
-/// index needs.
+/// Adds the nodes after the first `known` nodes to the index, which maps revisions to positions in the list `nodes`.
+/// The caller has reserved the space that the index needs.
 fn index_rest(nodes: &[Node], places: &mut Places, known: usize)
     requires known { known ≤ length nodes.now }
     requires begun { places.old.entries ≡ index_for (revs_in (take known nodes.now)) }
@@ -278,8 +278,8 @@ fn index_rest(nodes: &[Node], places: &mut Places, known: usize)
     index_from(nodes, places, 0);
 }
 
-/// Whether each node is one generation below the previous node. If `known` is more than `MOST_WALKED`, the caller has
-/// already checked the first `known` nodes.
+/// Whether each node's generation is one less than the previous node's generation. If `known` is more than
+/// `MOST_WALKED`, the caller has already checked the first `known` nodes.
 #[inline(never)]
 fn all_fall(nodes: &[Node], known: usize) -> bool
     requires known { known ≤ length nodes.now }
@@ -294,7 +294,7 @@ fn all_fall(nodes: &[Node], known: usize) -> bool
     }
 }
 
-/// Whether each node after index `first` is one generation below the previous node.
+/// Whether the generation of each node after index `first` is one less than the previous node's generation.
 fn falls_from(nodes: &[Node], first: usize) -> bool
     requires { first < length nodes.now }
     ensures { result ≡ falls (drop first (revs_in nodes.now)) }

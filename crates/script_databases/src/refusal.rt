@@ -26,13 +26,14 @@ pub enum Refusal {
     BadCommand,
     /// A revision id has no generation.
     BadGeneration,
-    /// A page with a maximum of 0 rows was requested. No line is expected to fail with `BadLimit`.
+    /// A page of the changes feed with a maximum of 0 rows was requested. No line is expected to fail with `BadLimit`.
     BadLimit,
     /// The line is not a JSON object.
     BadLine,
     /// A timestamp is after the year 9999.
     BadMoment,
-    /// The goal of a page is not above its start. No line is expected to fail with `BadRange`.
+    /// The goal of a page of the changes feed (the sequence up to which the page may extend) is not above the sequence
+    /// at which the page begins. No line is expected to fail with `BadRange`.
     BadRange,
     /// A document's `_revisions` is not an ancestry.
     BadRevisions,
@@ -62,7 +63,8 @@ pub enum Refusal {
     Gap,
     /// An edit's parent has the maximum generation.
     GenerationFull,
-    /// The goal of a page is above the update sequence. No line is expected to fail with `GoalAhead`.
+    /// The goal of a page of the changes feed (the sequence up to which the page may extend) is above the database's
+    /// update sequence. No line is expected to fail with `GoalAhead`.
     GoalAhead,
     /// A session's goal is below its start. No line is expected to fail with `GoalBelowStart`.
     GoalBelowStart,
@@ -98,7 +100,8 @@ pub enum Refusal {
     NoWorkers,
     /// A document or a body is not an object.
     NotObject,
-    /// The stored log entry has a greater recorded sequence. No line is expected to fail with `Older`.
+    /// The log already has an entry of the same session with a greater recorded sequence than the new entry. No line is
+    /// expected to fail with `Older`.
     Older,
     /// A window's life is not the session's life, or a log entry's life is not the database's life. No line is expected
     /// to fail with `OtherLife`.

@@ -9,20 +9,21 @@ use crate::device::ScriptRead;
 use crate::fault::ScriptFault;
 use std::alloc::{AllocError, Global};
 
-/// The maximum number of reads (docs/PROFILE.md, "Limits").
+/// The maximum number of times that a chunk reader calls `ScriptRead::read` (docs/PROFILE.md, "Limits").
 const MAX_READS: u32 = 4294967295;
 
-/// The maximum number of bytes that one read requests.
+/// The maximum number of bytes that one call of `ScriptRead::read` requests.
 const CHUNK: usize = 65536;
 
-/// A chunk reader: the buffer with the last chunk, and the number of reads.
+/// A chunk reader, which reads the input of a script in chunks. Each chunk consists of the bytes that one call of
+/// `ScriptRead::read` returns.
 #[derive(Drop)]
 pub struct Chunks {
-    /// The buffer for a chunk.
+    /// The buffer into which `ScriptRead::read` reads the next chunk of a script's input.
     room: Vec<u8>,
     /// The length of the last chunk. The last chunk is stored at the start of the buffer.
     count: usize,
-    /// The number of reads that were made.
+    /// The number of times that this chunk reader has called `ScriptRead::read`.
     turns: u32,
 }
 

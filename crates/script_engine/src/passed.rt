@@ -18,7 +18,7 @@ impl Model for Passed {
 /// A step that extends the history of a stream.
 #[derive(Clone, Copy, Drop)]
 pub(crate) enum Pass<'a> {
-    /// The start of the history, with no bytes.
+    /// The step that begins the history of a stream. After this step, the history has no bytes.
     Nothing,
     /// The history before a step, and the bytes that the step appends.
     More(&'a Passed, &'a [u8]),

@@ -25,8 +25,8 @@ use Rattle.write_commands.specs.declared.load.Load.{Load}
 
 -- ---- its parameters
 
--- The parameters of `load`: a database name, an optional UUID, and an optional document. Without a document, `load`
--- creates a database.
+-- The parameters of `load`: a database name, an optional UUID, and an optional document. If a `load` line has no
+-- document, the line only creates the database, unless the database already exists.
 pub record LoadAsk : Type 0 where
   pub db : List ℕ
   pub uuid : Option ℕ
@@ -51,7 +51,7 @@ made_line db = ended (codes "made " ++ db)
 abbrev pub there_line : List ℕ → List ℕ
 there_line db = ended (codes "there " ++ db)
 
--- The part of the output of `load` that has a document's id and its newest revision.
+-- The part of a line printed by `load` that has a document's id and the document's newest revision.
 abbrev pub document_part : Document → List ℕ
 document_part doc = quoted doc.id ++ codes " " ++ text_of_any (head_of doc.ancestry)
 

@@ -32,7 +32,8 @@ restore_in d = do
 
 -- ---- its output
 
--- The part of the output of `restore` that has the update sequence and the life of the restored database.
+-- The end of the line that `restore` prints: the restored database's update sequence and the database's life (a number
+-- that each restore raises).
 abbrev pub left_part : PutBack → List ℕ
 left_part back = codes " at " ++ decimal back.seq ++ codes " life " ++ decimal back.life
 
@@ -51,7 +52,7 @@ Restores old ask told new = Does (restore_done old ask) old told new
 
 -- ---- the guarantee of `restore`, as specified in docs/PROFILE.md, "Tied databases"
 
--- The guarantee for a `restore` line. A `restore` line that fails has an error that `FailsRestoring` lists.
+-- A `restore` line either succeeds, or fails with an error that `FailsRestoring` lists.
 abbrev pub IsRestored : Told → Type 0
 IsRestored (Ok text) = Unit {0}
 IsRestored (Err name) = (refusal : Refusal) × (name ≡ name_of refusal) × FailsRestoring refusal

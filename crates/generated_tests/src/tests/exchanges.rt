@@ -43,7 +43,8 @@ impl Side {
     }
 }
 
-/// Returns the index of a revision in the reference, or `PLACES` if the reference cannot represent the revision.
+/// Returns the index of a revision in the reference model, or `PLACES` if the reference model cannot represent the
+/// revision.
 pub(crate) fn place_of(rt: &impl Abort, wanted: Rev) -> usize {
     for place in 0..PLACES {
         if rev(rt, place) == wanted {
@@ -167,8 +168,8 @@ fn loses(
     at
 }
 
-/// Asserts that a parcel has exactly the documents and the gone revisions that the reference returns for the request.
-/// Returns the parcel's number of documents.
+/// Asserts that a parcel has exactly the documents and the gone (requested but missing) revisions that the reference
+/// model `plain` has for the request `asked`. Returns the parcel's number of documents.
 fn brings(
     rt: &impl Abort,
     alloc: Global,
@@ -193,8 +194,8 @@ fn brings(
     docs
 }
 
-/// Asserts that a side's database and the side's reference return the same documents for a request. Returns the number
-/// of documents that the database returned.
+/// Asserts that a side's database and the side's reference model return the same documents for a request. Returns the
+/// number of documents that the database returned.
 fn answers(rt: &impl Abort, alloc: Global, side: &Side, asked: &Asked) -> usize {
     let parcel = side.db.open_revs(alloc, asked).expect(rt, "memory");
     brings(rt, alloc, &side.plain, asked, &parcel)
@@ -210,8 +211,8 @@ fn asked(rt: &impl Abort, alloc: Global, source: &Side, target: &Side) -> Asked 
     target.db.revs_diff(alloc, &window).expect(rt, "memory")
 }
 
-/// Puts random documents on both sides, and compares requests and parcels with the reference. Returns the number of
-/// documents that the source returned.
+/// Puts random documents on both sides, and compares requests and parcels with the reference model. Returns the number
+/// of documents that the source returned.
 fn exchange(
     rt: &impl Abort,
     alloc: Global,
@@ -231,8 +232,9 @@ fn exchange(
     docs
 }
 
-/// Performs requests and fetches between a source and a target. The function is separate from its caller, because the
-/// caller's proof grows with each variable that is live in the caller.
+/// Creates a target, and compares the target's requests and the fetched documents with the reference models
+/// (`exchange`). The function is separate from its caller, because the caller's proof grows with each variable that is
+/// live in the caller.
 fn with_target(rt: &impl Abort, alloc: Global, seed: u64, source: &mut Side) -> usize {
     let mut rng = ChaCha8Rng::seed_from_u64(seed);
     let mut target = Side::new(alloc, 2);

@@ -45,8 +45,8 @@ pub(crate) fn document(
     Doc::new(id(rt, alloc, number), ancestry, deleted, body(rt, alloc))
 }
 
-/// Creates a random document, and merges the document into the reference. Returns the document, and the expected result
-/// of putting the document into a database.
+/// Creates a random document, and merges the document into the reference model. Returns the document, and the expected
+/// result of putting the document into a database.
 pub(crate) fn document_by_chance(
     rt: &impl Abort,
     alloc: Global,
@@ -74,7 +74,7 @@ pub(crate) fn is_answer(answer: Result<Put, BaseFault>, wanted: Answer, update_s
     }
 }
 
-/// Puts a random document into the database and into the reference.
+/// Puts a random document into the database and into the reference model.
 pub(crate) fn put(
     rt: &impl Abort,
     alloc: Global,
@@ -94,8 +94,8 @@ fn row_has(rt: &impl Abort, alloc: Global, row: &Row, number: usize, tree: &Refe
     holds(rt, same && are(rt, row.leaves(), &leaves), "a row");
 }
 
-/// Asserts that a row equals the reference's first row above the sequence `after` and at or below `goal`. Returns the
-/// row's sequence.
+/// Asserts that a row equals the reference model's first row above the sequence `after` and at or below `goal`. Returns
+/// the row's sequence.
 fn row_is(
     rt: &impl Abort,
     alloc: Global,
@@ -112,7 +112,8 @@ fn row_is(
     seq
 }
 
-/// Asserts that a window begins at `since`, has the expected end, and has the reference's first rows above `since`.
+/// Asserts that a window begins at `since`, has the expected end, and has the reference model's first rows above
+/// `since`.
 fn window_is(
     rt: &impl Abort,
     alloc: Global,

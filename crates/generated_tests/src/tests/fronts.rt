@@ -75,8 +75,8 @@ fn is_marked(front: &Front, start: u64, marks: &[bool; WINDOWS]) -> bool {
     front.low_water() == low_water(start, marks) && front.range_count() == range_count(marks)
 }
 
-/// Calls `finish` forty times, each time for a randomly chosen window of a front. The first call that finishes a window
-/// must succeed, and each further call that finishes the same window must fail.
+/// Calls `finish_one` forty times, each time for a randomly chosen window of a front. For each window, the first try to
+/// finish the window must succeed, and each later try must fail.
 fn finishes(rt: &impl Abort, front: &mut Front, seed: u64) {
     let mut rng = ChaCha8Rng::seed_from_u64(seed);
     let start = seed % 7;

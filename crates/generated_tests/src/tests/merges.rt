@@ -1,5 +1,5 @@
 //! Performs random merges. After each merge, the test compares the result of the merge and the results of all read
-//! calls with the reference.
+//! calls with the reference model.
 ghost use Rattle.std.specs.Prelude.{◌≤◌};
 
 use crate::tests::checks::holds;
@@ -12,7 +12,7 @@ use std::alloc::{AllocError, Global};
 use std::process::Abort;
 use std::sync::ArcSlice;
 
-/// Returns the signature of the revision at an index of the reference.
+/// Returns the signature of the revision at an index of the reference model.
 fn sig(rt: &impl Abort, place: usize) -> Sig {
     match Sig::parse(&[b'a' + (place % 3) as u8]) {
         Ok(sig) => sig,
@@ -76,7 +76,7 @@ pub(crate) fn ancestry(rt: &impl Abort, alloc: Global, places: &[usize]) -> Ance
     Ancestry::from_parts(alloc, start as u32, &sigs).expect(rt, "an ancestry")
 }
 
-/// Asserts that a revision has the same content in the tree and in the reference.
+/// Asserts that a revision has the same content in the tree and in the reference model (`Reference`).
 fn agree_on_content(rt: &impl Abort, tree: &Tree, reference: &Reference, one: Rev, place: usize) {
     match (tree.content(one), reference.content(place)) {
         (Some(content), Some((deleted, body))) => {
@@ -97,7 +97,7 @@ fn assert_are(rt: &impl Abort, answer: Result<Revs, AllocError>, places: &[usize
     holds(rt, are(rt, revs.as_slice(), places), "revisions");
 }
 
-/// Asserts that a revision has the same ancestry in the tree and in the reference.
+/// Asserts that a revision has the same ancestry in the tree and in the reference model (`Reference`).
 fn agree_on_walk(
     rt: &impl Abort,
     alloc: Global,
@@ -112,7 +112,8 @@ fn agree_on_walk(
     }
 }
 
-/// Asserts that a list of revisions is the ancestry of a revision in the reference.
+/// Asserts that the list `walk` of revisions is the ancestry that the reference model has for the revision at index
+/// `place`.
 fn is_walk(rt: &impl Abort, alloc: Global, reference: &Reference, place: usize, walk: &[Rev]) {
     let places = reference.ancestry(alloc, place).expect(rt, "memory");
     holds(
@@ -122,8 +123,8 @@ fn is_walk(rt: &impl Abort, alloc: Global, reference: &Reference, place: usize, 
     );
 }
 
-/// Whether a tree and the reference agree about whether a revision exists, what its origin is, and whether it is a
-/// leaf.
+/// Whether a tree and the reference model (`Reference`) agree about whether a revision exists, what its origin is, and
+/// whether it is a leaf.
 fn has_as(tree: &Tree, reference: &Reference, one: Rev, place: usize) -> bool {
     let stands = tree.has(one) == reference.has(place);
     let is_leaf = tree.is_leaf(one) == reference.is_leaf(place);
@@ -134,7 +135,7 @@ fn has_as(tree: &Tree, reference: &Reference, one: Rev, place: usize) -> bool {
     stands && is_leaf && tree.origin(one) == origin
 }
 
-/// Asserts that a tree and the reference agree about the revision at an index.
+/// Asserts that a tree and the reference model agree about the revision at an index.
 fn agree_at(rt: &impl Abort, alloc: Global, tree: &Tree, reference: &Reference, place: usize) {
     let one = rev(rt, place);
     holds(rt, has_as(tree, reference, one, place), "a revision");
@@ -153,7 +154,7 @@ fn agree_on_leaves(rt: &impl Abort, alloc: Global, tree: &Tree, places: &[usize]
     }
 }
 
-/// Asserts that a tree and the reference agree about the leaves, the number of revisions, and every revision.
+/// Asserts that a tree and the reference model agree about the leaves, the number of revisions, and every revision.
 fn agree(rt: &impl Abort, alloc: Global, tree: &Tree, reference: &Reference) {
     let leaves = reference.leaves(alloc).expect(rt, "memory");
     agree_on_leaves(rt, alloc, tree, &leaves);
@@ -172,7 +173,7 @@ fn revs(rt: &impl Abort, alloc: Global, places: &[usize]) -> Vec<Rev> {
     revs
 }
 
-/// Asserts that a tree and the reference agree about which of the given revisions are missing.
+/// Asserts that a tree and the reference model agree about which of the given revisions are missing.
 fn agree_on_missing(
     rt: &impl Abort,
     alloc: Global,
@@ -185,7 +186,8 @@ fn agree_on_missing(
     assert_are(rt, tree.missing(alloc, &revs), &missing);
 }
 
-/// Asserts that a tree and the reference agree about which leaves have one of the given revisions in their ancestries.
+/// Asserts that a tree and the reference model agree about which leaves have one of the given revisions in their
+/// ancestries.
 fn agree_on_above(
     rt: &impl Abort,
     alloc: Global,
@@ -198,8 +200,8 @@ fn agree_on_above(
     assert_are(rt, tree.leaves_above(alloc, &revs), &above);
 }
 
-/// Chooses random revisions, and asserts that a tree and the reference return the same missing revisions and the same
-/// leaves for these revisions.
+/// Chooses random revisions, and asserts that a tree and the reference model return the same missing revisions and the
+/// same leaves for these revisions.
 fn agree_on_asked(
     rt: &impl Abort,
     alloc: Global,
@@ -212,7 +214,7 @@ fn agree_on_asked(
     agree_on_above(rt, alloc, tree, reference, &asked);
 }
 
-/// Asserts that a merge returns the result that the reference returns.
+/// Asserts that a merge returns the result that the reference model returns.
 fn answers(rt: &impl Abort, answer: Result<Merged, TreeFault>, wanted: Answer) {
     match answer {
         Ok(Merged::Changed) => holds(rt, wanted == Answer::Changed, "a change"),
@@ -233,7 +235,7 @@ fn contradiction(fault: TreeFault) -> Option<(Rev, Rev, Rev)> {
     }
 }
 
-/// Asserts that a merge returns the error that the reference returns.
+/// Asserts that a merge returns the error that the reference model returns.
 fn refused(rt: &impl Abort, fault: TreeFault, wanted: Answer) {
     let Some((child, known, given)) = contradiction(fault) else {
         rt.panic(format_args!("no contradiction"))
@@ -259,7 +261,7 @@ pub(crate) fn content(rt: &impl Abort, alloc: Global, deleted: bool, byte: u8) -
     Content::new(deleted, body)
 }
 
-/// Merges a random ancestry into a tree and into the reference. Returns whether the merge failed.
+/// Merges a random ancestry into a tree and into the reference model. Returns whether the merge failed.
 fn merge(
     rt: &impl Abort,
     alloc: Global,

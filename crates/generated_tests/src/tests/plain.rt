@@ -8,8 +8,9 @@ use rev_tree::{Merged, Origin};
 use std::alloc::{AllocError, Global};
 use std::cmp::Ordering;
 
-/// The result of a merge. If the merge fails, the error has three revisions: a revision with different parents in the
-/// tree and in the given ancestry, the tree's parent, and the ancestry's parent.
+/// The result of a merge. If the merge fails, the error has three revisions. The first revision has different parents
+/// in the tree and in the given ancestry. The second revision is the first revision's parent in the tree, and the third
+/// revision is the first revision's parent in the ancestry.
 pub(crate) type PlainAnswer = Result<Merged, (Rev, Rev, Rev)>;
 
 /// A plain revision tree: the merged ancestries, and the contents and origins of revisions.

@@ -8,8 +8,8 @@ use crate::tests::reference::mask_of;
 use std::alloc::Global;
 use std::process::Abort;
 
-/// The number of the document that is edited and never loaded. In the reference, the edited document's revision of
-/// generation g has the index 3 (g - 1).
+/// The number of the document that is edited and never loaded. In the reference model, the edited document's revision
+/// of generation g has the index 3 (g - 1).
 pub(crate) const EDITED: usize = 4;
 
 /// A window, or a request for leaves of a window: the life (incarnation) of the source's database, the bounds, and the
@@ -282,8 +282,9 @@ impl Sessions {
         }
     }
 
-    /// Stores a window in a session. The window must have the session's life, begin at the end of the session's last
-    /// window, and end at or below the session's goal.
+    /// Stores a window in a session if the window fits the session. The window must have the same life (a number that
+    /// changes when the source is restored) as the session. The window must begin at the end of the session's last
+    /// window, and must not end above the session's goal (the last sequence that the session reads).
     fn append(&mut self, rt: &impl Abort, session: u128, rows: Rows) {
         let Some(held) = self.get(session) else {
             return;
@@ -384,7 +385,8 @@ fn settle(
     }
 }
 
-/// Settles those leaves of a document whose ancestries have a requested revision.
+/// Settles (stores or rejects) leaves of one document at the target. A leaf is settled if its ancestry has a requested
+/// revision.
 fn settle_document(
     rt: &impl Abort,
     alloc: Global,

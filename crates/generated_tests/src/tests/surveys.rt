@@ -1,4 +1,4 @@
-//! Compares the results of `repl_inspect` with the reference, and copies all leaves of a database into an empty
+//! Compares the results of `repl_inspect` with the reference model, and copies all leaves of a database into an empty
 //! database.
 use crate::tests::checks::holds;
 use crate::tests::exchanges::Side;
@@ -61,8 +61,8 @@ fn names(rt: &impl Abort, comparison: &Comparison, place: Option<usize>) -> bool
     }
 }
 
-/// Asserts that a document's comparison agrees with the document's trees in the reference of the source and the
-/// reference of the target.
+/// Asserts that a document's comparison agrees with the document's trees in the reference model of the source and the
+/// reference model of the target.
 fn says(
     rt: &impl Abort,
     alloc: Global,
@@ -131,8 +131,8 @@ fn counts(census: &mut Census, tree: &Reference, leaves: usize, live: usize) {
     census.revisions = census.revisions.saturating_add(tree.count() as u64);
 }
 
-/// Compares the conflicts and the counts of a side's database with the reference. Returns the number of documents in
-/// conflict.
+/// Compares the conflicts and the counts of a side's database with the reference model. Returns the number of documents
+/// in conflict.
 fn in_conflict(rt: &impl Abort, alloc: Global, side: &Side) -> u64 {
     let mut wanted = Census::none();
     for number in 0..IDS {
@@ -156,7 +156,7 @@ fn give(rt: &impl Abort, alloc: Global, source: &Database, id: &DocId, target: &
     }
 }
 
-/// Asserts that each document has the same leaves in a database and in the reference.
+/// Asserts that each document has the same leaves in a database and in the reference model.
 fn has_leaves(rt: &impl Abort, alloc: Global, database: &Database, plain: &PlainSide) {
     for number in 0..IDS {
         let wanted = plain.tree(number).leaves(alloc).expect(rt, "memory");
@@ -183,8 +183,8 @@ fn comes_back(rt: &impl Abort, alloc: Global, side: &Side, again: &mut Database)
     has_leaves(rt, alloc, again, &side.plain);
 }
 
-/// Asserts that all calls of `repl_inspect` agree with the reference. Returns the numbers of contradicting documents,
-/// of differing leaves, and of documents in conflict.
+/// Asserts that all calls of `repl_inspect` agree with the reference model. Returns the numbers of contradicting
+/// documents, of differing leaves, and of documents in conflict.
 fn survey(rt: &impl Abort, alloc: Global, source: &Side, target: &Side) -> [u64; 3] {
     let total = compares(rt, alloc, source, target);
     let conflicts = in_conflict(rt, alloc, source);

@@ -29,11 +29,11 @@ pub(crate) enum Call<'a> {
     ChooseMany(u32),
     /// Copy a selection, and store the copy as the bench's next selection.
     Copy(usize),
-    /// Read whether two selections are equal.
+    /// Check whether two selections, which are given by their indices, are equal.
     Equal(usize, usize),
-    /// Read whether a document is selected.
+    /// Check whether a document is selected.
     Has(Under, &'a str),
-    /// Read the text of the id of the replication from the source into the target.
+    /// Format the replication id that a replication of the source into the target has.
     Text(Under),
     /// Read a page of the source, given the sequence before the page, the goal, and the number of the feed's rows to
     /// scan.

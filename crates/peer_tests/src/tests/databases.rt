@@ -121,7 +121,8 @@ impl Bench {
     }
 }
 
-/// Reads the life (of the source database) that a window has.
+/// Returns, as a string, the life of the window at index `at`: the life of the database that produced the window (a
+/// number that changes when the database is restored).
 fn window_life(alloc: Global, windows: &[Window], at: usize) -> Option<String> {
     match windows.get(at) {
         Some(window) => shown(alloc, &window.life()),
@@ -261,7 +262,7 @@ pub(crate) fn made_text(alloc: Global, kept: Option<()>) -> Option<String> {
     }
 }
 
-/// Stores a window, and returns the window's text.
+/// Appends a window to the list `windows`, and returns the window's text, or `None` if an allocation fails.
 pub(crate) fn keep_window(
     alloc: Global,
     windows: &mut Vec<Window>,
@@ -274,7 +275,8 @@ pub(crate) fn keep_window(
     text
 }
 
-/// Stores an optional request, and returns the request's text.
+/// Appends a request to the list `lists`, and returns the request's text. Returns `None` if `asked` is `None` or an
+/// allocation fails.
 pub(crate) fn keep_asked(
     alloc: Global,
     lists: &mut Vec<Asked>,
@@ -371,7 +373,7 @@ fn edit(
     edit_text(alloc, answer)
 }
 
-/// Reads the tree of a document.
+/// Returns, as a string, the revision tree of a document in the database.
 pub(crate) fn tree(alloc: Global, db: &Database, id: &str) -> Option<String> {
     let Ok(id) = DocId::parse(alloc, id) else {
         return None;
@@ -382,7 +384,7 @@ pub(crate) fn tree(alloc: Global, db: &Database, id: &str) -> Option<String> {
     }
 }
 
-/// Reads a revision of a document.
+/// Returns, as a string, the node of a revision in a document's revision tree.
 pub(crate) fn node(alloc: Global, db: &Database, id: &str, text: &str) -> Option<String> {
     let Ok(id) = DocId::parse(alloc, id) else {
         return None;
@@ -393,7 +395,7 @@ pub(crate) fn node(alloc: Global, db: &Database, id: &str, text: &str) -> Option
     }
 }
 
-/// Reads the document at a revision.
+/// Returns, as a string, the document that the database has at a given revision.
 fn document(alloc: Global, db: &Database, id: &str, text: &str) -> Option<String> {
     let Ok(id) = DocId::parse(alloc, id) else {
         return None;

@@ -68,8 +68,8 @@ pub(crate) enum Call<'a> {
     Node(usize, &'a str, &'a str),
     /// Read the filter's verdict on a document.
     Verdict(usize, &'a str),
-    /// Read whether a peer covers a revision of a document: the revision is in the peer's tree, or in the ancestry of a
-    /// document in a session's ledger.
+    /// Read whether a peer covers a revision of a document. A peer covers a revision that is in the peer's tree of the
+    /// document, or in an ancestry of the same document in a session's ledger.
     Covered(usize, &'a str, &'a str),
     /// Read a page of at most 500 rows, above a sequence and up to a goal, and store the page as the next window.
     Page(usize, u64, u64),
@@ -631,7 +631,7 @@ fn put(alloc: Global, peer: &mut Peer<Rules>, rep: &RepId, entry: Entry) -> Opti
     }
 }
 
-/// Reads the entry of a session.
+/// Returns, as a string, the log entry of a session of the peer, or the error.
 pub(crate) fn entry(alloc: Global, peer: &Peer<Rules>, session: SessionId) -> Option<String> {
     match peer.entry(session) {
         Ok(entry) => entry_text(alloc, entry),
@@ -639,7 +639,7 @@ pub(crate) fn entry(alloc: Global, peer: &Peer<Rules>, session: SessionId) -> Op
     }
 }
 
-/// Reads the filter's verdict on a document.
+/// Returns, as a string, the verdict of the peer's filter on a document.
 fn verdict(alloc: Global, peer: &Peer<Rules>, text: &str) -> Option<String> {
     let Some(doc) = doc(alloc, text) else {
         return None;
@@ -647,7 +647,7 @@ fn verdict(alloc: Global, peer: &Peer<Rules>, text: &str) -> Option<String> {
     shown(alloc, &peer.filter().verdict(&doc))
 }
 
-/// Reads whether a revision of a document is covered.
+/// Returns, as a string, whether a peer covers (has in a tree or in a session's ledger) a revision of a document.
 fn covered(alloc: Global, peer: &Peer<Rules>, id: &str, text: &str) -> Option<String> {
     let Ok(id) = DocId::parse(alloc, id) else {
         return None;
@@ -658,7 +658,7 @@ fn covered(alloc: Global, peer: &Peer<Rules>, id: &str, text: &str) -> Option<St
     shown(alloc, &peer.covered(&id, rev))
 }
 
-/// Reads the windows of a session.
+/// Returns, as a string, the windows (ranges of the source's changes feed) that the peer has stored for a session.
 fn windows(alloc: Global, peer: &Peer<Rules>, session: SessionId) -> Option<String> {
     match peer.windows(session) {
         Some(windows) => stored_text(alloc, windows),

@@ -86,7 +86,7 @@ struct Turns {
     left: u64,
     /// The place whose worker may run, or 0 if no worker is chosen.
     chosen: u64,
-    /// The number of times that blocked workers slept since a worker was last blocked or released.
+    /// The number of times that any blocked worker has slept since the gate last blocked or released a worker.
     naps: u32,
     /// The place at which the gate stops a worker, or 0 if the gate stops no worker.
     stop_at: u64,
@@ -120,10 +120,11 @@ impl Turns {
         (may, may)
     }
 
-    /// Chooses one of the blocked workers at random, and returns whether a worker was chosen. The counter `naps` counts
-    /// how often blocked workers slept since a worker was last blocked or released. If the counter `naps` is 0, the
-    /// function chooses a worker only if all workers that may call the gate are blocked. If the counter `naps` is below
-    /// `SURE_NAPS`, the function chooses a worker only if all workers that will certainly call the gate are blocked.
+    /// Chooses one of the blocked workers at random, and returns whether a worker was chosen. The counter `naps` is the
+    /// number of times that any blocked worker has slept since the gate last blocked or released a worker. If the
+    /// counter `naps` is 0, the function chooses a worker only if all workers that may call the gate are blocked. If
+    /// the counter `naps` is below `SURE_NAPS`, the function chooses a worker only if all workers that will certainly
+    /// call the gate are blocked.
     fn choose(&mut self) -> bool {
         let held = bits(self.held);
         if held == 0 {

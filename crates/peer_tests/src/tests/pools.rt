@@ -179,8 +179,8 @@ impl Bench {
         self.take_back(rt, source, target, ran)
     }
 
-    /// Replicates one peer into another. Each worker counts its documents in a seat (a worker's row of counters) on the
-    /// progress board `board`.
+    /// Replicates one peer into another, and shows the progress of the run on the progress board `board`. The list
+    /// `seats` must have a seat (an access token for the board) for each worker of the plan.
     pub(crate) fn replicate_on<G: Gate + Sync, R: Abort + Threads + Wait + Sync>(
         &mut self,
         rt: &R,

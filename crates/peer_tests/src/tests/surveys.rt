@@ -174,7 +174,7 @@ fn conflict_text(alloc: Global, tree: &Tree) -> Option<String> {
     }
 }
 
-/// Returns the texts of documents.
+/// Formats each of the given documents with `doc_text`, and joins the formatted documents in order.
 fn docs_text(alloc: Global, docs: &[Doc]) -> Option<String> {
     let mut all = Some(String::new(alloc));
     for doc in docs {

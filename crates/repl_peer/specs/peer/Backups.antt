@@ -56,8 +56,8 @@ restore_answer p b =
     else Err faults.ForeignBackup)
 
 -- Peer p after restoring backup b. The restored peer has the database, local writes and outgoing logs of b. The life of
--- the restored database (a number that changes when a database is restored) is above the lives of p's and b's
--- databases.
+-- a database is a number that each restore raises. The restored database's life is one more than the greater of the
+-- lives of peer p's database and backup b's database.
 abbrev pub restored : PeerValue → BackupValue → PeerValue
 restored p b =
     record p { db = in_life b.db (greater_life p b + 1); locals = b.locals; outgoing = b.outgoing }

@@ -58,7 +58,8 @@ pub record Leaf : Type 0 where
   pub id : Id
   pub rev : RevId
 
--- The first leaf of a feed row that does not satisfy the test `known` (a function of a document id and a revision).
+-- In one row of the changes feed, the first leaf for which the test `known` (a function of a document id and a
+-- revision) is false.
 abbrev pub unknown_in : (Id → RevId → Bool) → RowValue → Option Leaf
 unknown_in known row =
     option_map (λ rev. record { seq = row.seq; id = row.id; rev = rev })

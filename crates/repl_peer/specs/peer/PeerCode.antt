@@ -63,16 +63,17 @@ coded_scope =
     (λ c. (c.rep, (c.life, (c.base, c.goal))))
     (λ p. record { rep = p.0; life = p.1.0; base = p.1.1.0; goal = p.1.1.1 }) (λ _. refl)
 
--- The type of the triples by which the encoding represents three parts of a session: the front (which windows are
--- done), the windows, and the recorded sequence.
+-- In the encoding of a session, a triple of the type `Windows` has the session's front (which windows are done), the
+-- session's windows, and the session's recorded sequence.
 abbrev Windows : Type 0
 Windows = FrontValue × (List WindowValue × ℕ)
 
--- The type of the pairs by which the encoding represents a session's arrivals (stored documents) and its ledger.
+-- In the encoding of a session, a pair of the type `Brought` has the session's arrivals (stored documents) and the
+-- session's ledger.
 abbrev Brought : Type 0
 Brought = List WrittenValue × List RefusedValue
 
--- The type of the pairs by which the encoding represents a session's counts and its two timestamps.
+-- In the encoding of a session, a pair of the type `Counted` has the session's counts and the session's two timestamps.
 abbrev Counted : Type 0
 Counted = Counts × (ℕ × ℕ)
 

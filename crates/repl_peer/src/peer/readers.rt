@@ -47,8 +47,8 @@ impl<F: WriteFilter> Peer<F> {
         }
     }
 
-    /// Returns the front of a session, if the peer has the session. The front says which windows of the session are
-    /// done.
+    /// Returns the `Front` of a session, if the peer has the session. A session's `Front` says which of the session's
+    /// windows (ranges of the source's feed) are marked as done.
     pub fn front(&self, id: SessionId) -> Option<&Front>
         ensures { option_map (λ f. f.front) (option_copied result)
             ≡ option_map (λ s. s.front) (session_in self.now.1.sessions id) }

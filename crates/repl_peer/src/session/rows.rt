@@ -29,8 +29,9 @@ fn row_in(rows: &[Row], id: &DocId) -> Option<usize>
     None
 }
 
-/// Returns the index of a row that has the given document id. The call tries the row after index `from` first, then all
-/// rows from `from` on, and then the rows before `from`.
+/// Returns the index of a row that has the given document id. The call first checks only the row at index `from + 1`.
+/// If the row at index `from + 1` has another id or does not exist, the call then searches all rows from index `from`,
+/// and finally the rows before `from`.
 ///
 /// For consecutive documents of a parcel, the rows are usually consecutive rows of the window, or the same row.
 pub(crate) fn row_from(rows: &[Row], id: &DocId, from: usize) -> Option<usize>

@@ -217,8 +217,9 @@ impl StoredWindow {
         }
     }
 
-    /// Drops the leaves of the rows. If the rows without leaves were not prepared, and the allocation for these rows
-    /// fails, the window keeps the leaves of its rows.
+    /// Drops the leaves of the window's rows, by replacing the rows with shortened rows (without leaves). The call
+    /// allocates the shortened rows, unless they were prepared before. If the allocation of the shortened rows fails,
+    /// the window keeps its rows with their leaves.
     pub(crate) fn let_leaves_go(&mut self, alloc: Global)
         ensures { self.new.window ≡ self.old.window }
     {
@@ -230,8 +231,8 @@ impl StoredWindow {
     }
 }
 
-/// Drops the leaves of the rows of the window at an index. If the allocation for the rows without leaves fails, the
-/// window keeps the leaves.
+/// Drops the leaves of all rows of one window, which has the index `place` in the list `windows`. If the allocation of
+/// the shortened rows (without leaves) fails, the window keeps its rows with their leaves.
 pub(crate) fn let_leaves_go_at(windows: &mut Vec<StoredWindow>, place: usize)
     requires within { place < length windows.old.items }
     ensures windows { windows_of windows.new.items ≡ windows_of windows.old.items }

@@ -40,12 +40,13 @@ pub enum SyncFault {
 /// has the other peer's leaves of each shared document. A document is shared if both plans select the document and
 /// neither peer has ever refused the document. If a shared document's two trees agreed before the call and had complete
 /// histories, both peers then have the same revisions, parents, contents of leaves and winner. Two trees agree if no
-/// revision has different parents or contents in the two trees. Two trees of a shared document that agreed and had
-/// complete histories before the call still agree and have complete histories after the call.
+/// revision has different parents or contents in the two trees. Suppose that a call between consistent peers succeeds.
+/// If a shared document's two trees agreed and had complete histories before this call, the two trees still agree and
+/// have complete histories after the call.
 ///
-/// If the peers are consistent in both directions, they stay consistent for every result of the call. `a` stays
-/// consistent with third peers whose UUID is not `b`'s, and `b` stays consistent with third peers whose UUID is not
-/// `a`'s.
+/// If the peers are consistent in both directions, they stay consistent for every result of the call. Peer `a` stays
+/// consistent with every other peer whose UUID differs from the UUID of `b`. Peer `b` stays consistent with every other
+/// peer whose UUID differs from the UUID of `a`.
 pub fn sync_alone<F: WriteFilter, G: WriteFilter>(
     alloc: Global,
     a: &mut Peer<F>,

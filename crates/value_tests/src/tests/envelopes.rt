@@ -4,7 +4,8 @@ use doc_envelope::Envelope;
 use std::alloc::Global;
 use std::process::Abort;
 
-/// A call on a document or on a part of a document.
+/// A call of one of the functions of `Envelope` that wrap or unwrap documents. The argument of the call is a document,
+/// an envelope, or the beginning of one of them.
 #[derive(Clone, Copy)]
 enum Call {
     /// Wrap a document.

@@ -48,7 +48,8 @@ fn run(rt: &impl Abort, alloc: Global, front: &mut Front, calls: &[(Call, &str)]
     }
 }
 
-/// Calls that append windows that end at 2, 4 and 6, and that finish the windows out of order.
+/// A table of calls on a front (a list of adjacent windows). The calls append windows with the ends 2, 4 and 6, and
+/// finish the windows out of order.
 static OUT_OF_ORDER: &[(Call, &str)] = &[
     (Call::Append(2), "Ok(())"),
     (Call::Append(4), "Ok(())"),
@@ -68,8 +69,8 @@ static OUT_OF_ORDER: &[(Call, &str)] = &[
     (Call::Append(6), "Err(NotRising { end: 6 })"),
 ];
 
-/// Calls that append windows that end at 2, 4, 6, 8 and 10. Finishing the windows makes ranges of done windows appear,
-/// merge, and fall below the low water.
+/// A table of calls on a front (a list of adjacent windows). The first calls append windows with the ends 2, 4, 6, 8
+/// and 10. Finishing the windows makes ranges of done windows appear, merge, and fall below the low water.
 static RANGES_MERGED: &[(Call, &str)] = &[
     (Call::Append(2), "Ok(())"),
     (Call::Append(4), "Ok(())"),

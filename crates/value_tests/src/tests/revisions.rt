@@ -6,7 +6,7 @@ use std::alloc::Global;
 use std::process::Abort;
 use test_support::{rev, rev_text, revs_text, shown};
 
-/// A call of the crate `rev_core` with revisions, which the test gives as strings.
+/// A call on revisions or digests. The test gives revisions as strings.
 #[derive(Clone, Copy)]
 enum Call<'a> {
     /// Parse a revision, and read its generation and its signature.

@@ -21,7 +21,7 @@ returns-in-Err-run_lines-clause-pictured g c =
     let held = g.W.ScriptWrite.held c.args.writer.now in
     let head = subst (λ (t : List ℕ). Draws [] t []) (sym c.as_bytes.ensures.value) c.head_of.ensures in
     let f = c.in-Err-run_lines.ensures.fault in
-    let told = until_as _ Pictures (λ d. sketch_of d.form d.db d.begun) (λ old line told new h. h) c.in-Err-run_lines.stopped _ f.0 f.1 f.4 in
+    let told = until_as _ Pictures (λ d. sketch_of d.form d.db d.begun d.tally) (λ old line told new h. h) c.in-Err-run_lines.stopped _ f.0 f.1 f.4 in
     until_lines c.args.form (option_map (λ s. s.now) c.args.db) left held c.in-Err-run_lines.stopped f.0 c.as_bytes.result.now f.1 _ _ f.2 head told c.in-Ok.ensures.ok.0 f.3
 
 pub returns-in_err-tail-clause-pictured : goal.returns-in_err-tail-clause-pictured
@@ -33,7 +33,7 @@ returns-in_err-tail-clause-pictured g c =
     let p = err_from_is_err_and c.from_residual.result c.from_residual.ensures.1 in
     let head = subst (λ (t : List ℕ). Draws [] t []) (sym c.as_bytes.ensures.value) c.head_of.ensures in
     let a = c.in-Ok-run_lines.ensures.answers in
-    let answered = seen_as _ Pictures (λ d. sketch_of d.form d.db d.begun) (λ old line told new h. h) _ _ a.0 _ a.1 a.4 in
+    let answered = seen_as _ Pictures (λ d. sketch_of d.form d.db d.begun d.tally) (λ old line told new h. h) _ _ a.0 _ a.1 a.4 in
     rw p.1 (subst (λ f. IsPicturedUntil f c.args.form db left held held') (sym p.2)
     (until_tail c.args.form db left held a.0 c.in-Ok-run_lines.clean c.as_bytes.result.now a.1 _ _ held' a.2 head answered c.in-Ok.ensures.ok.0 a.3))
 
@@ -44,7 +44,7 @@ returns-in-Ok-end-clause-pictured g c =
     let head = subst (λ (t : List ℕ). Draws [] t []) (sym c.as_bytes.ensures.value) c.head_of.ensures in
     let tail = subst (λ (t : List ℕ). Draws [] t []) (sym c.as_slice.ensures.value) c.in_ok-tail.ensures in
     let a = c.in-Ok-run_lines.ensures.answers in
-    let answered = seen_as _ Pictures (λ d. sketch_of d.form d.db d.begun) (λ old line told new h. h) _ _ a.0 _ a.1 a.4 in
+    let answered = seen_as _ Pictures (λ d. sketch_of d.form d.db d.begun d.tally) (λ old line told new h. h) _ _ a.0 _ a.1 a.4 in
     picture_whole c.args.form (option_map (λ s. s.now) c.args.db) left held a.0 c.in-Ok-run_lines.clean c.as_bytes.result.now a.1 c.as_slice.result.now _ _ _ _ a.2 head answered tail c.in-Ok.ensures.ok.0 a.3 c.in-Ok-end.ensures.ok.0
 
 pub returns-clause-pictured : goal.returns-clause-pictured
@@ -56,7 +56,7 @@ returns-clause-pictured g c =
     let head = subst (λ (t : List ℕ). Draws [] t []) (sym c.as_bytes.ensures.value) c.head_of.ensures in
     let tail = subst (λ (t : List ℕ). Draws [] t []) (sym c.as_slice.ensures.value) c.in_ok-tail.ensures in
     let a = c.in-Ok-run_lines.ensures.answers in
-    let answered = seen_as _ Pictures (λ d. sketch_of d.form d.db d.begun) (λ old line told new h. h) _ _ a.0 _ a.1 a.4 in
+    let answered = seen_as _ Pictures (λ d. sketch_of d.form d.db d.begun d.tally) (λ old line told new h. h) _ _ a.0 _ a.1 a.4 in
     let e = c.in-Err-end.ensures.err in
     subst (λ f. IsPicturedUntil f c.args.form db left held held') (sym c.in-Err-end.ensures.fault)
     (until_end c.args.form db left held a.0 c.in-Ok-run_lines.clean c.as_bytes.result.now a.1 c.as_slice.result.now e.0 e.1 _ _ _ held' a.2 head answered tail c.in-Ok.ensures.ok.0 a.3 e.2 e.3)
@@ -81,7 +81,7 @@ returns-in-Err-run_lines-clause-took g c =
     let held = g.W.ScriptWrite.held c.args.writer.now in
     let head = subst (λ (t : List ℕ). Draws [] t []) (sym c.as_bytes.ensures.value) c.head_of.ensures in
     let f = c.in-Err-run_lines.ensures.took_until in
-    let told = until_as _ Pictures (λ d. sketch_of d.form d.db d.begun) (λ old line told new h. h) c.in-Err-run_lines.stopped _ f.0 f.1 f.4 in (
+    let told = until_as _ Pictures (λ d. sketch_of d.form d.db d.begun d.tally) (λ old line told new h. h) c.in-Err-run_lines.stopped _ f.0 f.1 f.4 in (
       f.0,
       f.2,
       until_lines c.args.form (option_map (λ s. s.now) c.args.db) (Some f.0) held c.in-Err-run_lines.stopped f.0 c.as_bytes.result.now f.1 _ _ refl head told c.in-Ok.ensures.ok.0 f.3,
@@ -95,7 +95,7 @@ returns-in_err-tail-clause-took g c =
     let p = err_from_is_err_and c.from_residual.result c.from_residual.ensures.1 in
     let head = subst (λ (t : List ℕ). Draws [] t []) (sym c.as_bytes.ensures.value) c.head_of.ensures in
     let a = c.in-Ok-run_lines.ensures.took in
-    let answered = seen_as _ Pictures (λ d. sketch_of d.form d.db d.begun) (λ old line told new h. h) _ _ a.0 _ a.1 a.4 in
+    let answered = seen_as _ Pictures (λ d. sketch_of d.form d.db d.begun d.tally) (λ old line told new h. h) _ _ a.0 _ a.1 a.4 in
     rw p.1 (
       a.0,
       a.2,
@@ -109,7 +109,7 @@ returns-in-Ok-end-clause-took g c =
     let head = subst (λ (t : List ℕ). Draws [] t []) (sym c.as_bytes.ensures.value) c.head_of.ensures in
     let tail = subst (λ (t : List ℕ). Draws [] t []) (sym c.as_slice.ensures.value) c.in_ok-tail.ensures in
     let a = c.in-Ok-run_lines.ensures.took in
-    let answered = seen_as _ Pictures (λ d. sketch_of d.form d.db d.begun) (λ old line told new h. h) _ _ a.0 _ a.1 a.4 in (
+    let answered = seen_as _ Pictures (λ d. sketch_of d.form d.db d.begun d.tally) (λ old line told new h. h) _ _ a.0 _ a.1 a.4 in (
       a.0,
       a.2,
       picture_whole c.args.form (option_map (λ s. s.now) c.args.db) (Some a.0) held a.0 c.in-Ok-run_lines.clean c.as_bytes.result.now a.1 c.as_slice.result.now _ _ _ _ refl head answered tail c.in-Ok.ensures.ok.0 a.3 c.in-Ok-end.ensures.ok.0,
@@ -123,7 +123,7 @@ returns-clause-took g c =
     let head = subst (λ (t : List ℕ). Draws [] t []) (sym c.as_bytes.ensures.value) c.head_of.ensures in
     let tail = subst (λ (t : List ℕ). Draws [] t []) (sym c.as_slice.ensures.value) c.in_ok-tail.ensures in
     let a = c.in-Ok-run_lines.ensures.took in
-    let answered = seen_as _ Pictures (λ d. sketch_of d.form d.db d.begun) (λ old line told new h. h) _ _ a.0 _ a.1 a.4 in
+    let answered = seen_as _ Pictures (λ d. sketch_of d.form d.db d.begun d.tally) (λ old line told new h. h) _ _ a.0 _ a.1 a.4 in
     let e = c.in-Err-end.ensures.err in (
       a.0,
       a.2,

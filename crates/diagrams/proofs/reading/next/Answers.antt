@@ -1,7 +1,7 @@
 use Rattle.proof_prelude.proofs.{List, [], Some, None, sym, subst, string_bytes}
 use Rattle.rev_core.specs.{RevId}
 use Rattle.output_parser.specs.declared.told.Told.TheVariants as lines
-use Rattle.diagrams.specs.Drawing.{Holds, IsNext, conflict, found, log, loose, opened, other, row, with_all}
+use Rattle.diagrams.specs.Drawing.{Holds, IsNext, conflict, found, log, loose, opened, other, row, unknown, with_all}
 use Rattle.diagrams.specs.declared.reading.Whole.TheVariants as wholes
 use Rattle.diagrams.proofs.reading.next.Goals as goal
 
@@ -22,6 +22,9 @@ returns-in_ok-conflict_of-in-Conflict c =
 
 pub returns-in-Other : goal.returns-in-Other
 returns-in-Other c = subst (λ t. IsNext c.args.begun t None None) (sym c.in-Other.is) other
+
+pub returns-in-Unknown : goal.returns-in-Unknown
+returns-in-Unknown c = subst (λ t. IsNext c.args.begun t None None) (sym c.in-Unknown.is) unknown
 
 pub returns-in-Found : goal.returns-in-Found
 returns-in-Found c = subst (λ t. IsNext c.args.begun t None (Some (wholes.Found c.in-Found.found))) (sym c.in-Found.is) found

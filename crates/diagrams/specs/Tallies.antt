@@ -1,0 +1,27 @@
+-- Defines the counts of a script's output lines, as specified in docs/PROFILE.md, "Pictures".
+use Rattle.std.specs.Prelude.{ℕ, ◌==◌, if◌then◌else◌}
+use Rattle.script_engine.specs.Device.{counted}
+use Rattle.output_parser.specs.declared.told.Told.{Told}
+use Rattle.output_parser.specs.declared.told.Told.TheVariants as told
+use Rattle.diagrams.specs.declared.tally.Tally.{Tally}
+
+-- The counts before the first line.
+abbrev pub none_counted : Tally
+none_counted = record { lines = 0; unknown = 0; first = 0 }
+
+-- The counts after a line that `couch_replicate` prints.
+abbrev pub with_line : Tally → Tally
+with_line old = record { lines = counted old.lines 1; unknown = old.unknown; first = old.first }
+
+-- The counts after a line that `couch_replicate` does not print. The field `first` has the number of the first such line.
+abbrev pub with_unknown : Tally → Tally
+with_unknown old = record {
+  lines = counted old.lines 1;
+  unknown = counted old.unknown 1;
+  first = if old.unknown == 0 then counted old.lines 1 else old.first;
+}
+
+-- The counts after a line with the given contents.
+abbrev pub with_told : Tally → Told → Tally
+with_told old told.Unknown = with_unknown old
+with_told old line = with_line old
