@@ -91,6 +91,21 @@ fn long(alloc: Global) -> Option<Ancestry> {
     }
 }
 
+/// Returns an ancestry of five revisions, whose signatures have 64, 33, 32, 32 and 17 bytes. A tree stores the first two
+/// signatures in heap blocks.
+fn mixed(alloc: Global) -> Option<Ancestry> {
+    match (
+        Sig::parse(b"0123456789abcdef0123456789abcdef0123456789abcdef0123456789abcdef"),
+        Sig::parse(b"0123456789abcdef0123456789abcdef0"),
+        Sig::parse(b"0123456789abcdef0123456789abcdeF"),
+        Sig::parse(b"0123456789abcdef0123456789abcdef"),
+        Sig::parse(b"0123456789abcdef0"),
+    ) {
+        (Ok(s), Ok(t), Ok(u), Ok(v), Ok(w)) => of_sigs(alloc, 15, &[s, t, u, v, w]),
+        _ => None,
+    }
+}
+
 /// Merges an optional ancestry. Returns true if the merge has the expected result and no failed call of `merge` changed
 /// the tree, and otherwise false.
 fn merges(alloc: Global, tree: &mut Tree, given: Option<&Ancestry>, wanted: Merged) -> bool {
@@ -103,13 +118,14 @@ fn merges(alloc: Global, tree: &mut Tree, given: Option<&Ancestry>, wanted: Merg
     }
 }
 
-/// Merges the ancestries of `three`, `other` and `long`, and then the ancestry of `three` again. Returns whether each
+/// Merges the ancestries of `three`, `other`, `long` and `mixed`, and then the ancestry of `three` again. Returns whether each
 /// merge has the expected result.
 fn grows(alloc: Global, tree: &mut Tree) -> bool {
     let three = revisions::three(alloc).ok();
     merges(alloc, tree, three.as_ref(), Merged::Changed)
         && merges(alloc, tree, other(alloc).as_ref(), Merged::Changed)
         && merges(alloc, tree, long(alloc).as_ref(), Merged::Changed)
+        && merges(alloc, tree, mixed(alloc).as_ref(), Merged::Changed)
         && merges(alloc, tree, three.as_ref(), Merged::Same)
 }
 

@@ -12,6 +12,8 @@ pub mod NewRev
 pub mod ShortSig
 pub mod KeptRev
 pub mod KeptForm
+pub mod SmallRev
+pub mod SmallForm
 pub use Sig.{IsStored, is_sig, is_sig_byte, padded, sig_read}
 pub use Rev.{IsRev, RevId, rev_cmp}
 pub use RevOrder.{rev_cmp_exact, rev_cmp_total, rev_eq_is, rev_tie_is, rev_tie_self}
@@ -24,4 +26,5 @@ pub use NewRev.{edit_rev, edit_text, next_generation, parent_text}
 unfoldable pub use NewRev.{edit_sig}
 pub use ShortSig.{digit_of, digits_of, is_hex_digit, is_short, text_in}
 unfoldable pub use ShortSig.{bytes_in}
+pub use SmallRev.{blocks_of, is_long}
 pub use declared.fault.RevFault.{RevFault}

@@ -10,6 +10,7 @@ mod local_edit;
 mod rev;
 mod short_sig;
 mod sig;
+mod small_rev;
 
 pub use ancestry::Ancestry;
 pub use fault::RevFault;
@@ -17,3 +18,4 @@ pub use kept_rev::KeptRev;
 pub use local_edit::new_rev;
 pub use rev::Rev;
 pub use sig::Sig;
+pub use small_rev::SmallRev;

@@ -1,5 +1,5 @@
 //! A signature is the part of a revision id after the first `-`.
-ghost use Rattle.std.specs.Prelude.{◌≡◌, ◌≤◌, ◌∷◌, [], true, length, nat_eq};
+ghost use Rattle.std.specs.Prelude.{◌≡◌, ◌≤◌, ◌∷◌, ◌++◌, [], true, length, nat_eq};
 ghost use Rattle.std.specs.List.{list_all};
 ghost use Rattle.std.specs.Ordering.{nat_cmp, as_partial_cmp};
 ghost use Rattle.std.specs.Cmp;
@@ -45,8 +45,8 @@ impl Model for Sig {
 }
 
 impl Sig {
-    ghost use Rattle.std.specs.Prelude.{take};
-    ghost use Rattle.rev_core.specs.Sig.{sig_read, is_sig};
+    ghost use Rattle.std.specs.Prelude.{take, drop};
+    ghost use Rattle.rev_core.specs.Sig.{sig_read, is_sig, IsStored};
 
     /// Parses a signature. Returns `BadSig` if the string is not a signature.
     pub fn parse(text: &[u8]) -> Result<Sig, RevFault>
@@ -67,6 +67,63 @@ impl Sig {
         ensures sig { is_sig self.now ≡ true }
     {
         &self.bytes[..self.len as usize]
+    }
+
+    /// Returns the number of bytes of the signature.
+    pub(crate) fn len(&self) -> u8
+        ensures { result ≡ length self.now }
+    {
+        self.len
+    }
+
+    /// Returns the first 32 bytes of the signature, with zeros after the end of a shorter signature.
+    pub(crate) fn head(&self) -> &[u8]
+        ensures { result.now ≡ take 32 (padded self.now) }
+    {
+        &self.bytes[..32]
+    }
+
+    /// Returns the other 32 bytes of the signature, with zeros after the end of a shorter signature.
+    pub(crate) fn tail(&self) -> &[u8]
+        ensures { result.now ≡ drop 32 (padded self.now) }
+    {
+        &self.bytes[32..]
+    }
+
+    /// Copies the first 32 bytes of the signature, with zeros after the end of a shorter signature.
+    pub(crate) fn half(&self) -> [u8; 32]
+        ensures { result ≡ take 32 (padded self.now) }
+    {
+        // An array expression takes fewer instructions than a call of `copy_from_slice`, because the compiler copies an
+        // array that `copy_from_slice` has written once more.
+        let head = &self.bytes;
+        [
+            head[0], head[1], head[2], head[3], head[4], head[5], head[6], head[7], head[8],
+            head[9], head[10], head[11], head[12], head[13], head[14], head[15], head[16],
+            head[17], head[18], head[19], head[20], head[21], head[22], head[23], head[24],
+            head[25], head[26], head[27], head[28], head[29], head[30], head[31],
+        ]
+    }
+
+    /// Creates a signature of `len` bytes from two halves of 32 bytes each, which are the signature followed by zeros.
+    pub(crate) fn of_halves(head: &[u8], tail: &[u8], len: u8) -> Sig
+        requires head { length head.now ≡ 32 }
+        requires tail { length tail.now ≡ 32 }
+        requires stored { IsStored (head.now ++ tail.now) len }
+        ensures { result ≡ take len (head.now ++ tail.now) }
+    {
+        // An array expression takes fewer instructions than two calls of `copy_from_slice`.
+        let bytes = [
+            head[0], head[1], head[2], head[3], head[4], head[5], head[6], head[7], head[8],
+            head[9], head[10], head[11], head[12], head[13], head[14], head[15], head[16],
+            head[17], head[18], head[19], head[20], head[21], head[22], head[23], head[24],
+            head[25], head[26], head[27], head[28], head[29], head[30], head[31], tail[0], tail[1],
+            tail[2], tail[3], tail[4], tail[5], tail[6], tail[7], tail[8], tail[9], tail[10],
+            tail[11], tail[12], tail[13], tail[14], tail[15], tail[16], tail[17], tail[18],
+            tail[19], tail[20], tail[21], tail[22], tail[23], tail[24], tail[25], tail[26],
+            tail[27], tail[28], tail[29], tail[30], tail[31],
+        ];
+        Sig { bytes, len }
     }
 
     /// Returns the first sixteen bytes of the signature, with zeros after the end of a shorter signature.

@@ -20,19 +20,19 @@ pub mod Walking
 pub mod Winning
 pub use Answering.{answer_known, answer_missed, changed_from_answer, is_told_same, none_from_answer, same_from_answer}
 pub use Asking.{IsAsked, above_itself, asked_at, asked_nowhere, only_is, skip_last, skip_step, told_from_asked, told_more}
-pub use Edges.{contradiction_here, edges_known, edges_missed, no_contradiction_at, not_is, told_contradiction, told_none}
+pub use Edges.{contradiction_here, edges_known, edges_missed, no_contradiction_at, told_contradiction, told_none}
 pub use Falling.{all_behind, fallen_missed, fallen_place, falls_end, falls_split, nodes_step, none_first, nowhere, stays_unfallen}
 pub use Fronts.{behind_ties, bytes_of_sig, eight_are, eight_at, front_first, front_of-padded, words_decide}
 pub use Indexing.{index_empty, index_fallen, index_few, index_gone, index_held, index_many, index_short, length_marks, marks_more, marks_within}
 pub use Indexing.{unmarked, walk_end, walk_here, walk_later}
 pub use Leaves.{IsBest, best_none, best_of_all, best_placed, count_more, count_once, deleted_item, leaf_item, leaves_more, leaves_of_nodes}
 pub use Leaves.{leaves_pushed, length-leaves, lone_leaf, none_there, second_leaf}
-pub use Linking.{IsAdded, IsEdged, IsGiven, added, edged, given, length-revs_in, new_node, tree_has, tree_known, tree_named}
+pub use Linking.{IsAdded, IsEdged, IsGiven, added, edged, given, length-revs_in, tree_has, tree_known, tree_named}
 pub use Lookups.{content_is, has_is, is_some-copied, leaf_is, ok_known, origin_is, parent_is}
 pub use Members.{item_among, kept_fail, kept_pass}
 pub use Places.{is_some-node_of, node_at, none_of, place_at, place_known, place_none, place_unknown, place_within, read_alike, read_at, rev_at_place}
 pub use Places.{slice_get-append, slice_get-last}
-pub use Putting.{IsPut, child_at, next_unplaced, put_end, put_next, put_start, room_first, room_for, room_next, standing}
+pub use Putting.{IsPut, blocks_first, blocks_next, child_at, next_unplaced, put_end, put_next, put_start, room_first, room_for, room_next, standing}
 pub use Rooms.{all_new, count_next, count_within, fewer_new, known_counts_not, new_counts}
 pub use Sorting.{leaves_in_order, pair_cmp, pair_cmp_total, told, told_deleted}
 pub use Starts.{IsIndexed-none}

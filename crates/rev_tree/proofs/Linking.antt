@@ -3,7 +3,7 @@ use Rattle.proof_prelude.proofs.{length-map, ◌≡◌, ℕ, zero, suc, ◌<◌,
 use Rattle.std.specs.FinMap.{find}
 use Rattle.std.specs.Cmp.{both_ways}
 use Rattle.rev_core.specs.{RevId, rev_cmp, rev_tie_is, rev_tie_self, is_among}
-use Rattle.rev_tree.specs.{ContentValue, TreeValue, joined, is_parent, get-joined, get-joined_known, some_or, same_joined, child_of_parent, parent_from_child, with_rev, with_edge, with_content, revs_in, rev_at, node_of, Distinct, entries_of, parent_in, place_of, tree_of, IsNode, IsLinked, NodeValue, Origin}
+use Rattle.rev_tree.specs.{ContentValue, TreeValue, joined, is_parent, get-joined, get-joined_known, some_or, same_joined, child_of_parent, parent_from_child, with_rev, with_edge, with_content, revs_in, rev_at, node_of, Distinct, entries_of, parent_in, place_of, tree_of, IsNode, IsLinked, NodeValue, new_node, Origin}
 use Rattle.rev_tree.proofs.Places.{is_some-node_of, node_rev, node_at, among_at, rev_at_place, node_of-push, place_unknown, revs_in-push, distinct_push, slice_get-append}
 use Rattle.rev_tree.proofs.Setting.{revs_in-set, node_of-set}
 use Rattle.rev_tree.proofs.Views.{part, get-origins, get-parents, get-contents, joined_entries, same_entries}
@@ -251,9 +251,6 @@ tree_named nodes k n linked at some c p is =
     λ i. record { origins = (tree_of nodes).origins; parents = sym ps i; contents = (tree_of nodes).contents }
 
 -- ---- a new node at the end
-
-abbrev pub new_node : RevId → Origin → NodeValue
-new_node r o = record { rev = r; parent = None; content = None; origin = o; has_child = false }
 
 get_left : (revs : List RevId) (r : RevId) (i : ℕ) → i < length revs → slice_get (revs ++ r ∷ []) i ≡ slice_get revs i
 get_left [] r i h = absurd (omega arith)

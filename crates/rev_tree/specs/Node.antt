@@ -17,6 +17,10 @@ pub record NodeValue : Type 0 where
   pub origin : Origin
   pub has_child : Bool
 
+-- A node of revision r without parent, content or child.
+abbrev pub new_node : RevId → Origin → NodeValue
+new_node r origin = record { rev = r; parent = None; content = None; origin = origin; has_child = false }
+
 -- The flags of a node, decoded from the node's stored form.
 abbrev pub marks_of : Known → Marks
 marks_of (Bare marks counted) = marks

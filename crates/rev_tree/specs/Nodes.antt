@@ -6,6 +6,7 @@ use Rattle.std.specs.Option.{option_map_or}
 use Rattle.std.specs.Ordering.{is_lt, bool_cmp, ordering_then}
 use Rattle.rev_core.specs.Rev.{RevId, rev_cmp}
 use Rattle.rev_core.specs.Ancestry.{is_among}
+use Rattle.rev_core.specs.SmallRev.{blocks_of}
 use Rattle.rev_tree.specs.InOrder.{first_of}
 use Rattle.rev_tree.specs.Tree.{TreeValue, IsTree, is_parent, leaves}
 use Rattle.rev_tree.specs.Content.{ContentValue}
@@ -91,6 +92,11 @@ unless_among known r = cond (is_among r known) 0 1
 abbrev pub count_new : List RevId → List RevId → ℕ
 count_new known [] = 0
 count_new known (r ∷ revs) = unless_among known r + count_new known revs
+
+-- The number of heap blocks that nodes need for the revisions of a list.
+abbrev pub count_blocks : List RevId → ℕ
+count_blocks [] = 0
+count_blocks (r ∷ revs) = blocks_of r + count_blocks revs
 
 -- The nodes represent a tree, and `best` is the index of the winner's node if the tree has a winner.
 pub record IsLed (nodes : List NodeValue) (best : ℕ) : Type 0 where

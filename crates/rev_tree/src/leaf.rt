@@ -5,7 +5,7 @@ ghost use Rattle.rev_core.specs.Rev.{IsRev, rev_cmp};
 ghost use Rattle.rev_tree.specs.Words.{front_of};
 
 use crate::words::front_of;
-use rev_core::Rev;
+use rev_core::SmallRev;
 use std::cmp::Ordering;
 
 /// A leaf with its sort key: the deleted flag, the generation, and the first eight bytes of the signature. The sort key
@@ -15,7 +15,7 @@ pub(crate) struct Leaf<'a> {
     pub(crate) deleted: bool,
     generation: u32,
     front: u64,
-    pub(crate) rev: &'a Rev,
+    pub(crate) rev: &'a SmallRev,
     ghost is_rev: { IsRev rev.now },
     ghost is_generation: { generation ≡ rev.now.generation },
     ghost is_front: { front ≡ front_of 8 rev.now.sig },
@@ -23,7 +23,7 @@ pub(crate) struct Leaf<'a> {
 
 impl<'a> Leaf<'a> {
     /// Creates a leaf with its sort key.
-    pub(crate) fn new(deleted: bool, rev: &'a Rev) -> Leaf<'a>
+    pub(crate) fn new(deleted: bool, rev: &'a SmallRev) -> Leaf<'a>
         ensures deleted { result.deleted ≡ deleted }
         ensures rev { result.rev.now ≡ rev.now }
     {
@@ -52,6 +52,6 @@ impl<'a> Leaf<'a> {
         if self.front != other.front {
             return other.front.cmp(&self.front);
         }
-        other.rev.cmp(self.rev)
+        other.rev.order(self.rev)
     }
 }

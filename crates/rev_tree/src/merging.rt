@@ -1,18 +1,20 @@
 //! Compares an ancestry with the nodes of a tree, and inserts the ancestry.
-ghost use Rattle.std.specs.Prelude.{◌≡◌, ℕ, ◌<◌, [], Some, None, IfSome, IfOk, IfErr, OnOk, length, slice_get};
+ghost use Rattle.std.specs.Prelude.{◌≡◌, ℕ, ◌+◌, ◌<◌, ◌≤◌, [], Some, None, IfSome, IfOk, IfErr, OnOk, length, slice_get};
 ghost use Rattle.std.specs.FinMap.{get};
 ghost use Rattle.std.specs.List.{list_all};
 ghost use Rattle.rev_core.specs.Rev.{RevId};
+ghost use Rattle.rev_core.specs.SmallRev.{blocks_of};
 ghost use Rattle.rev_core.specs.Ancestry.{IsAncestry, edges_of};
 ghost use Rattle.rev_tree.specs.Tree.{merged, has_edge, first_contradiction, leaves};
 ghost use Rattle.rev_tree.specs.InOrder.{first_of};
-ghost use Rattle.rev_tree.specs.Nodes.{HasGained, HasRoom, IsLed, IsLinked, count_new, place_of, rev_at, revs_in, tree_of, unless_among};
+ghost use Rattle.rev_tree.specs.Nodes.{HasGained, HasRoom, IsLed, IsLinked, count_blocks, count_new, place_of, rev_at, revs_in, tree_of, unless_among};
 
 use crate::content::Content;
 use crate::fault::Contradiction;
+use crate::node::Node;
 use crate::nodes::Nodes;
 use crate::origin::Origin;
-use rev_core::Rev;
+use rev_core::{Rev, Sig};
 
 impl Nodes {
     /// Whether the tree has all edges (from child to parent) of an ancestry. Returns an error if a child's parent in
@@ -35,14 +37,10 @@ impl Nodes {
             let given = revs[i];
             match self.parent_at(place) {
                 Some(parent) => {
-                    let known = self.node_at(parent).rev();
-                    if *known != given {
+                    let node = self.node_at(parent);
+                    if !node.is_of(&given) {
                         let child = revs[i - 1];
-                        return Err(Contradiction {
-                            child,
-                            known: *known,
-                            given,
-                        });
+                        return Err(contradiction(child, node, given));
                     }
                     place = Some(parent);
                 }
@@ -85,43 +83,52 @@ impl Nodes {
 
     /// Inserts the revisions of an ancestry, its edges and the content of its head, and returns the index of the
     /// winner's node. The argument `best` is the index of the winner's node before the call. The caller has reserved
-    /// space for the missing revisions.
+    /// space for the missing revisions, and gives the heap blocks that the revisions may need.
     pub(crate) fn put(
         &mut self,
         best: usize,
         revs: &[Rev],
         content: Content,
         origin: Origin,
+        blocks: &mut Vec<Box<Sig>>,
     ) -> usize
         requires led { IsLed self.old.items best }
         requires ancestry { IsAncestry revs.now }
         requires none { first_contradiction (tree_of self.old.items).parents (edges_of revs.now) ≡ None }
         requires room { HasRoom self.old (count_new (revs_in self.old.items) revs.now) }
+        requires blocks { count_blocks revs.now ≤ length blocks.old.items }
         ensures tree { tree_of self.new.items ≡ merged (tree_of self.old.items) revs.now content origin }
         ensures best { slice_get (revs_in self.new.items) result ≡ first_of (leaves (tree_of self.new.items)) }
     {
         if self.all().is_empty() {
-            self.put_first(revs, content, origin);
+            self.put_first(revs, content, origin, blocks);
             0
         } else {
-            let head = self.put_among(revs, content, origin);
+            let head = self.put_among(revs, content, origin, blocks);
             self.winner_after(best, head)
         }
     }
 
     /// Inserts an ancestry into an empty tree. The revisions of an ancestry are distinct, so the call does not look for
     /// existing nodes.
-    fn put_first(&mut self, revs: &[Rev], content: Content, origin: Origin)
+    fn put_first(
+        &mut self,
+        revs: &[Rev],
+        content: Content,
+        origin: Origin,
+        blocks: &mut Vec<Box<Sig>>,
+    )
         requires none { self.old.items ≡ [] }
         requires ancestry { IsAncestry revs.now }
         requires room { HasRoom self.old (count_new (revs_in self.old.items) revs.now) }
+        requires blocks { count_blocks revs.now ≤ length blocks.old.items }
         ensures tree { tree_of self.new.items ≡ merged (tree_of self.old.items) revs.now content origin }
         ensures revs { revs_in self.new.items ≡ revs.now }
     {
-        let mut child = self.push(revs[0], origin);
+        let mut child = self.push(&revs[0], origin, blocks);
         self.give(child, content);
         for i in 1..revs.len() {
-            let parent = self.push(revs[i], origin);
+            let parent = self.push(&revs[i], origin, blocks);
             self.link(child, parent);
             child = parent;
         }
@@ -129,21 +136,28 @@ impl Nodes {
 
     /// Inserts an ancestry and returns the index of the head's node. Some revisions of the ancestry may already have
     /// nodes.
-    fn put_among(&mut self, revs: &[Rev], content: Content, origin: Origin) -> usize
+    fn put_among(
+        &mut self,
+        revs: &[Rev],
+        content: Content,
+        origin: Origin,
+        blocks: &mut Vec<Box<Sig>>,
+    ) -> usize
         requires some { 0 < length revs.now }
         requires room { HasRoom self.old (count_new (revs_in self.old.items) revs.now) }
+        requires blocks { count_blocks revs.now ≤ length blocks.old.items }
         ensures tree { tree_of self.new.items ≡ merged (tree_of self.old.items) revs.now content origin }
         ensures head { slice_get (revs_in self.new.items) result ≡ slice_get revs.now 0 }
         ensures kept { (i : ℕ) (r : RevId)
             → slice_get (revs_in self.old.items) i ≡ Some r
             → slice_get (revs_in self.new.items) i ≡ Some r }
     {
-        let head = self.add(None, revs[0], origin);
+        let head = self.add(None, &revs[0], origin, blocks);
         let mut child = head;
         self.give(child, content);
         for i in 1..revs.len() {
             let near = self.near(child);
-            let parent = self.add(near, revs[i], origin);
+            let parent = self.add(near, &revs[i], origin, blocks);
             self.link(child, parent);
             child = parent;
         }
@@ -152,15 +166,23 @@ impl Nodes {
 
     /// Returns the index of a revision's node, after appending a node with the given origin if the revision has no
     /// node. The call first checks whether the node at index `near` holds the revision. The caller has reserved the
-    /// space for the node.
-    fn add(&mut self, near: Option<usize>, rev: Rev, origin: Origin) -> usize
+    /// space for the node, and gives the heap block that the revision may need.
+    fn add(
+        &mut self,
+        near: Option<usize>,
+        rev: &Rev,
+        origin: Origin,
+        blocks: &mut Vec<Box<Sig>>,
+    ) -> usize
         requires near { IfSome near (λ i. i < length self.old.items) }
-        requires room { HasRoom self.old (unless_among (revs_in self.old.items) rev) }
-        ensures { HasGained self.old self.new rev origin result }
+        requires room { HasRoom self.old (unless_among (revs_in self.old.items) rev.now) }
+        requires blocks { blocks_of rev.now ≤ length blocks.old.items }
+        ensures gained { HasGained self.old self.new rev.now origin result }
+        ensures blocks { length blocks.old.items ≤ length blocks.new.items + blocks_of rev.now }
     {
-        match self.place_near(near, &rev) {
+        match self.place_near(near, rev) {
             Some(place) => place,
-            None => self.push(rev, origin),
+            None => self.push(rev, origin, blocks),
         }
     }
 
@@ -177,5 +199,17 @@ impl Nodes {
             }
         }
         self.place_in(rev)
+    }
+}
+
+/// Creates the error for a revision whose parent in the tree is the revision of a given node.
+#[inline(never)]
+fn contradiction(child: Rev, node: &Node, given: Rev) -> Contradiction
+    ensures { result ≡ record { child = child; known = node.now.rev; given = given } }
+{
+    Contradiction {
+        child,
+        known: node.to_rev(),
+        given,
     }
 }

@@ -3,13 +3,13 @@ ghost use Rattle.std.specs.Prelude.{◌≡◌, ◌+◌, ◌<◌, ◌^◌, Some, 
 ghost use Rattle.std.specs.Option.{option_copied};
 ghost use Rattle.std.specs.Ordering.{eq_by_cmp};
 ghost use Rattle.rev_core.specs.Rev.{IsRev, rev_cmp};
-ghost use Rattle.rev_tree.specs.Node.{counted_of, marks_of, content_of};
+ghost use Rattle.rev_tree.specs.Node.{counted_of, marks_of, content_of, new_node};
 
 use crate::content::Content;
 use crate::origin::{Origin, SessionId};
 use crate::words::is_same;
-use rev_core::Rev;
-use std::alloc::AllocError;
+use rev_core::{Rev, SmallRev};
+use std::alloc::{AllocError, Global};
 use std::marker::Model;
 
 /// The number of values of a 64-bit integer, 2^64. A session's 128-bit number is stored as two 64-bit integers.
@@ -22,7 +22,7 @@ const HALF: u128 = 1 << 64;
 /// `u128` is aligned to 16 bytes.
 #[derive(Drop)]
 pub(crate) struct Node {
-    rev: Rev,
+    rev: SmallRev,
     known: Known,
     session_high: u64,
     session_low: u64,
@@ -131,8 +131,8 @@ impl Model for Node {
 
 impl Node {
     /// Creates a node without parent, content or child.
-    pub(crate) fn new(rev: Rev, origin: Origin) -> Node
-        ensures { result ≡ record { rev = rev; parent = None; content = None; origin = origin; has_child = false } }
+    pub(crate) fn new(rev: SmallRev, origin: Origin) -> Node
+        ensures { result ≡ new_node rev origin }
     {
         let (is_fed, session, number) = match origin {
             Origin::Local(number) => (false, 0, number),
@@ -152,10 +152,18 @@ impl Node {
     }
 
     /// Returns the revision.
-    pub(crate) fn rev(&self) -> &Rev
+    pub(crate) fn rev(&self) -> &SmallRev
         ensures { result.now ≡ self.now.rev }
     {
         &self.rev
+    }
+
+    /// Returns the revision as a `Rev`.
+    #[inline(always)]
+    pub(crate) fn to_rev(&self) -> Rev
+        ensures { result ≡ self.now.rev }
+    {
+        self.rev.to_rev()
     }
 
     /// Returns the generation of the revision.
@@ -167,6 +175,7 @@ impl Node {
     }
 
     /// Whether the node holds the given revision.
+    #[inline(always)]
     pub(crate) fn is_of(&self, rev: &Rev) -> bool
         ensures { result ≡ eq_by_cmp rev_cmp rev.now self.now.rev }
     {
@@ -257,12 +266,13 @@ impl Node {
     }
 
     /// Copies the node.
-    pub(crate) fn copy(&self) -> Result<Node, AllocError>
+    pub(crate) fn copy(&self, alloc: Global) -> Result<Node, AllocError>
         ensures { IfOk result (λ n. n ≡ self.now) }
     {
         let known = self.known.copy()?;
+        let rev = self.rev.copy(alloc)?;
         Ok(Node {
-            rev: self.rev,
+            rev,
             known,
             session_high: self.session_high,
             session_low: self.session_low,

@@ -1,18 +1,21 @@
 //! The nodes of a tree, and the lookup of a node by its revision.
-ghost use Rattle.std.specs.Prelude.{◌≡◌, ℕ, ◌+◌, ◌<◌, ◌≤◌, ◌⊎◌, ◌∷◌, ◌++◌, [], Some, None, IfOk, IfSome, OnOk, slice_get, length, take, drop, true, nat_eq, vec_capacity};
+ghost use Rattle.std.specs.Prelude.{◌≡◌, ℕ, ◌+◌, ◌<◌, ◌≤◌, ◌⊎◌, ◌∷◌, ◌++◌, [], Some, None, IfOk, IfSome, OnOk, slice_get, length, take, drop, true, nat_eq, nat_lt, vec_capacity, vec_len};
 ghost use Rattle.std.specs.Option.{option_copied};
 ghost use Rattle.rev_core.specs.Rev.{RevId};
+ghost use Rattle.rev_core.specs.SmallRev.{blocks_of};
+ghost use Rattle.rev_tree.specs.Node.{new_node};
 ghost use Rattle.rev_tree.specs.Room.{HasIndexRoom};
 ghost use Rattle.rev_tree.specs.Steps.{with_edge, with_content};
 ghost use Rattle.rev_tree.specs.InOrder.{first_of};
 ghost use Rattle.rev_tree.specs.Tree.{leaves};
 ghost use Rattle.rev_tree.specs.declared.nodes.TheConstants.{MOST_WALKED};
+ghost use Rattle.rev_tree.specs.declared.origin.Origin.TheVariants.{Local, Feed};
 
 use crate::content::Content;
 use crate::node::Node;
-use crate::origin::Origin;
+use crate::origin::{Origin, SessionId};
 use crate::place_index::Places;
-use rev_core::Rev;
+use rev_core::{Rev, Sig, SmallRev};
 use std::alloc::{AllocError, Global};
 use std::hash::{FoldHasher, Hasher};
 use std::marker::Model;
@@ -29,7 +32,7 @@ const MOST_COUNTED: usize = 4;
 const MOST_NODES: usize = u32::MAX as usize;
 
 ghost use Rattle.rev_tree.specs.Index.{falls, index_for, mark_of, noted_from};
-ghost use Rattle.rev_tree.specs.Nodes.{Distinct, HasGained, HasRoom, IsLinked, count_new, node_of, place_of, revs_in, tree_of, unless_among};
+ghost use Rattle.rev_tree.specs.Nodes.{Distinct, HasGained, HasRoom, IsLinked, count_blocks, count_new, node_of, place_of, revs_in, tree_of, unless_among};
 
 /// Nodes with their index. A tree never removes a node, so the positions of nodes do not change.
 ///
@@ -103,7 +106,7 @@ impl Nodes {
             if self.places.is_empty() {
                 return fallen_to(&self.list, rev);
             }
-            let place = self.places.get(mark_of(rev))?;
+            let place = self.places.get(mark_of(rev.generation(), rev.sig_bytes()))?;
             if self.list[place].is_of(rev) {
                 return Some(place);
             }
@@ -112,21 +115,25 @@ impl Nodes {
         walked_to(&self.list, rev)
     }
 
-    /// Reserves space for inserting an ancestry. Let n be the number of nodes plus the number of given revisions. If n
+    /// Reserves space for inserting an ancestry, and returns the heap blocks that the inserted revisions need. Let n be the number of nodes plus the number of given revisions. If n
     /// is at most `MOST_COUNTED`, the call reserves space only for the revisions that the tree lacks. If n is more than
     /// `MOST_COUNTED` but at most `MOST_WALKED`, the call reserves exactly the space for all given revisions. The call
     /// fails if the tree could get more than `MOST_NODES` nodes.
     #[tactic(auto, using(crate::proofs::Rooms::count_within))]
-    pub(crate) fn make_room(&mut self, revs: &[Rev]) -> Result<(), AllocError>
+    pub(crate) fn make_room(&mut self, revs: &[Rev]) -> Result<Vec<Box<Sig>>, AllocError>
         ensures items { self.new.items ≡ self.old.items }
         ensures room { OnOk result (HasRoom self.new (count_new (revs_in self.new.items) revs.now)) }
+        ensures blocks { IfOk result (λ b. count_blocks revs.now ≤ length b.items) }
     {
         let all = self.list.as_slice().len() + revs.len();
         if all > MOST_NODES {
             return Err(AllocError);
         }
+        let alloc = *self.list.allocator();
+        let blocks = blocks_for(alloc, revs)?;
         reserve_nodes(&mut self.list, revs)?;
-        reserve_index(*self.list.allocator(), &mut self.places, all)
+        reserve_index(alloc, &mut self.places, all)?;
+        Ok(blocks)
     }
 
     /// Releases the unused space of a tree with few nodes, and the space of an empty index. After a merge of an
@@ -139,15 +146,18 @@ impl Nodes {
     }
 
     /// Appends a node for a new revision with the given origin, and returns the node's index. The caller has reserved
-    /// the space for the node.
-    pub(crate) fn push(&mut self, rev: Rev, origin: Origin) -> usize
-        requires new { place_of self.old.items rev ≡ None }
+    /// the space for the node, and gives the heap block that the revision may need.
+    #[inline(always)]
+    pub(crate) fn push(&mut self, rev: &Rev, origin: Origin, blocks: &mut Vec<Box<Sig>>) -> usize
+        requires new { place_of self.old.items rev.now ≡ None }
         requires room { HasRoom self.old 1 }
-        ensures gained { HasGained self.old self.new rev origin result }
-        ensures revs { revs_in self.new.items ≡ revs_in self.old.items ++ rev ∷ [] }
+        requires blocks { blocks_of rev.now ≤ length blocks.old.items }
+        ensures gained { HasGained self.old self.new rev.now origin result }
+        ensures revs { revs_in self.new.items ≡ revs_in self.old.items ++ rev.now ∷ [] }
+        ensures blocks { length blocks.old.items ≤ length blocks.new.items + blocks_of rev.now }
     {
         let place = self.list.as_slice().len();
-        self.list.push_reserved(Node::new(rev, origin));
+        push_node(&mut self.list, rev, origin, blocks);
         index_rest(&self.list, &mut self.places, place);
         place
     }
@@ -209,12 +219,12 @@ impl Nodes {
 }
 
 /// Returns a 64-bit hash of a revision.
-fn mark_of(rev: &Rev) -> u64
-    ensures { result ≡ mark_of rev.now }
+fn mark_of(generation: u32, sig: &[u8]) -> u64
+    ensures { result ≡ mark_of (record { generation = generation; sig = sig.now }) }
 {
     let mut hasher = FoldHasher::default();
-    hasher.write(rev.sig_bytes());
-    hasher.finish().wrapping_add(u64::from(rev.generation()))
+    hasher.write(sig);
+    hasher.finish().wrapping_add(u64::from(generation))
 }
 
 /// Returns the position of a revision's node in a list of nodes. Each node's generation must be one less than the
@@ -328,8 +338,109 @@ fn index_from(nodes: &[Node], places: &mut Places, first: usize)
     ensures entered { places.new.entered ≡ places.old.entered }
 {
     for i in first..nodes.len() {
-        places.note(mark_of(nodes[i].rev()), i);
+        let node = &nodes[i];
+        places.note(mark_of(node.generation(), node.rev().sig_bytes()), i);
     }
+}
+
+/// Appends a node for a revision to a list with space for the node.
+#[inline(always)]
+fn push_node(list: &mut Vec<Node>, rev: &Rev, origin: Origin, blocks: &mut Vec<Box<Sig>>)
+    requires space { vec_len list.old < vec_capacity list.old }
+    requires blocks { blocks_of rev.now ≤ length blocks.old.items }
+    ensures items { list.new.items ≡ list.old.items ++ new_node rev.now origin ∷ [] }
+    ensures len { vec_len list.new ≡ vec_len list.old + 1 }
+    ensures capacity { vec_capacity list.new ≡ vec_capacity list.old }
+    ensures blocks { length blocks.old.items ≤ length blocks.new.items + blocks_of rev.now }
+{
+    if SmallRev::is_long(rev) {
+        // The called functions get the parts of the origin, so that `origin` can stay in registers.
+        match origin {
+            Origin::Local(number) => push_long_local(list, rev, number, blocks),
+            Origin::Feed(session, number) => push_long_fed(list, rev, session.0, number, blocks),
+        }
+    } else {
+        list.push_reserved(Node::new(SmallRev::inline(rev), origin));
+    }
+}
+
+/// Appends a node for a local revision that is stored in a heap block.
+#[inline(never)]
+fn push_long_local(list: &mut Vec<Node>, rev: &Rev, number: u64, blocks: &mut Vec<Box<Sig>>)
+    requires space { vec_len list.old < vec_capacity list.old }
+    requires blocks { 0 < length blocks.old.items }
+    ensures items { list.new.items ≡ list.old.items ++ new_node rev.now (Local number) ∷ [] }
+    ensures len { vec_len list.new ≡ vec_len list.old + 1 }
+    ensures capacity { vec_capacity list.new ≡ vec_capacity list.old }
+    ensures blocks { length blocks.old.items ≡ length blocks.new.items + 1 }
+{
+    let small = SmallRev::long(rev, blocks);
+    list.push_reserved(Node::new(small, Origin::Local(number)));
+}
+
+/// Appends a node for a revision of a session's feed that is stored in a heap block.
+#[inline(never)]
+fn push_long_fed(
+    list: &mut Vec<Node>,
+    rev: &Rev,
+    session: u128,
+    number: u64,
+    blocks: &mut Vec<Box<Sig>>,
+)
+    requires space { vec_len list.old < vec_capacity list.old }
+    requires blocks { 0 < length blocks.old.items }
+    ensures items { list.new.items ≡ list.old.items ++ new_node rev.now (Feed (record { 0 = session }) number) ∷ [] }
+    ensures len { vec_len list.new ≡ vec_len list.old + 1 }
+    ensures capacity { vec_capacity list.new ≡ vec_capacity list.old }
+    ensures blocks { length blocks.old.items ≡ length blocks.new.items + 1 }
+{
+    let small = SmallRev::long(rev, blocks);
+    list.push_reserved(Node::new(small, Origin::Feed(SessionId(session), number)));
+}
+
+/// Allocates a heap block for each revision that a node stores in a heap block.
+fn blocks_for(alloc: Global, revs: &[Rev]) -> Result<Vec<Box<Sig>>, AllocError>
+    ensures { IfOk result (λ b. count_blocks revs.now ≤ length b.items) }
+{
+    if !has_long(revs) {
+        return Ok(Vec::new(alloc));
+    }
+    long_blocks(alloc, revs)
+}
+
+/// Whether a node stores one of the revisions in a heap block.
+fn has_long(revs: &[Rev]) -> bool
+    ensures { result ≡ nat_lt 0 (count_blocks revs.now) }
+{
+    for rev in revs {
+        if SmallRev::is_long(rev) {
+            return true;
+        }
+    }
+    false
+}
+
+/// Allocates the heap blocks of revisions, some of which have a signature of more than 32 bytes.
+#[inline(never)]
+fn long_blocks(alloc: Global, revs: &[Rev]) -> Result<Vec<Box<Sig>>, AllocError>
+    ensures { IfOk result (λ b. count_blocks revs.now ≤ length b.items) }
+{
+    let mut blocks = Vec::new(alloc);
+    for rev in revs {
+        if SmallRev::is_long(rev) {
+            push_block(&mut blocks, rev)?;
+        }
+    }
+    Ok(blocks)
+}
+
+/// Allocates a heap block for a revision, and appends the block to a list.
+fn push_block(blocks: &mut Vec<Box<Sig>>, rev: &Rev) -> Result<(), AllocError>
+    ensures { OnOk result (length blocks.new.items ≡ length blocks.old.items + 1) }
+{
+    let block = Box::new(*blocks.allocator(), rev.sig())?;
+    blocks.push(block)?;
+    Ok(())
 }
 
 /// Counts the given revisions that have no node, by scanning the nodes.
@@ -396,6 +507,7 @@ fn fit_index(places: &mut Places)
 }
 
 /// Reserves space in the index for `nodes` entries, unless `nodes` is at most `MOST_WALKED`.
+#[inline(always)]
 fn reserve_index(alloc: Global, places: &mut Places, nodes: usize) -> Result<(), AllocError>
     requires { length places.old.entries ≤ nodes }
     ensures index { places.new.entries ≡ places.old.entries }
@@ -433,7 +545,8 @@ fn copy_nodes(alloc: Global, nodes: &[Node]) -> Result<Vec<Node>, AllocError>
 {
     let mut copies = Vec::with_capacity(alloc, nodes.len())?;
     for node in nodes {
-        copies.push(node.copy()?)?;
+        copies.reserve(1)?;
+        copies.push_reserved(node.copy(alloc)?);
     }
     Ok(copies)
 }

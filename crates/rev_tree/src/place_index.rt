@@ -117,6 +117,7 @@ impl Places {
     }
 
     /// Reserves space for `additional` entries.
+    #[inline(never)]
     pub(crate) fn reserve(&mut self, alloc: Global, additional: usize) -> Result<(), AllocError>
         ensures entries { self.new.entries ≡ self.old.entries }
         ensures room { OnOk result (additional ≤ self.new.spare) }

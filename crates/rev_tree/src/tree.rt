@@ -9,7 +9,7 @@ use crate::nodes::Nodes;
 use crate::origin::Origin;
 use crate::revs::Revs;
 use crate::winner::is_deleted;
-use rev_core::{Ancestry, Rev};
+use rev_core::{Ancestry, Rev, SmallRev};
 use std::alloc::{AllocError, Global};
 use std::marker::Model;
 
@@ -80,7 +80,7 @@ impl Tree {
     {
         let node = self.nodes.node_in(&rev)?;
         let parent = node.parent()?;
-        Some(*self.nodes.node_at(parent).rev())
+        Some(self.nodes.node_at(parent).to_rev())
     }
 
     /// Returns the content of a revision, if the tree knows the content.
@@ -174,21 +174,22 @@ impl Tree {
         ensures { result ≡ first_of (leaves self.now) }
     {
         let node = self.nodes.all().get(self.best)?;
-        Some(*node.rev())
+        Some(node.to_rev())
     }
 
     /// Returns the leaves, winner first. The call does not allocate if the tree has only one leaf.
+    #[inline(always)]
     pub fn leaves(&self, alloc: Global) -> Result<Revs, AllocError>
         ensures { IfOk result (λ out. out ≡ leaves self.now) }
     {
         match self.only_leaf() {
-            Some(leaf) => Ok(Revs::one(*leaf)),
+            Some(leaf) => Ok(Revs::one(leaf.to_rev())),
             None => Ok(Revs::from(self.sorted_leaves(alloc)?)),
         }
     }
 
     /// Returns the only leaf, if the tree has exactly one leaf.
-    fn only_leaf(&self) -> Option<&Rev>
+    fn only_leaf(&self) -> Option<&SmallRev>
         ensures { option_copied result ≡ only_of (leaves self.now) }
     {
         let mut found = None;
@@ -245,8 +246,9 @@ impl Tree {
         ensures { IfOk result (λ out. out ≡ leaves_above self.now revs.now) }
     {
         if let Some(leaf) = self.only_leaf() {
-            if revs.contains(leaf) {
-                return Ok(Revs::one(*leaf));
+            let rev = leaf.to_rev();
+            if revs.contains(&rev) {
+                return Ok(Revs::one(rev));
             }
         }
         let leaves = self.leaves(alloc)?;
@@ -373,8 +375,10 @@ impl Tree {
         ensures tree { IsTree self.new }
     {
         let revs = ancestry.revs();
-        self.nodes.make_room(revs)?;
-        let best = self.nodes.put(self.best, revs, content, origin);
+        let mut blocks = self.nodes.make_room(revs)?;
+        let best = self
+            .nodes
+            .put(self.best, revs, content, origin, &mut blocks);
         self.nodes.give_back();
         self.best = best;
         Ok(())
@@ -387,7 +391,8 @@ fn revs_of(alloc: Global, leaves: &[Leaf<'_>]) -> Result<Vec<Rev>, AllocError>
 {
     let mut revs = Vec::with_capacity(alloc, leaves.len())?;
     for leaf in leaves {
-        revs.push(*leaf.rev)?;
+        revs.reserve(1)?;
+        revs.push_reserved(leaf.rev.to_rev());
     }
     Ok(revs)
 }

@@ -22,12 +22,13 @@ impl Nodes {
         let most = self
             .all()
             .len()
-            .min(self.node_at(start).rev().generation() as usize);
+            .min(self.node_at(start).generation() as usize);
         let mut revs = Vec::with_capacity(alloc, most)?;
         let mut at = start;
         'walk: loop {
             let node = self.node_at(at);
-            revs.push(*node.rev())?;
+            revs.reserve(1)?;
+            revs.push_reserved(node.to_rev());
             match node.parent() {
                 Some(parent) => at = parent,
                 None => break 'walk,
@@ -47,7 +48,7 @@ impl Nodes {
         for i in 0..steps {
             at = self.node_at(at).parent()?;
         }
-        Some(*self.node_at(at).rev())
+        Some(self.node_at(at).to_rev())
     }
 
     /// Returns the given leaves that are equal to, or descend from, one of the revisions `revs`. The result keeps the

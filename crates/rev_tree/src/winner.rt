@@ -106,7 +106,7 @@ pub(crate) fn goes_before(leaf: &Node, best: Option<&Node>) -> bool
         Some(best) => {
             let order = is_deleted(leaf)
                 .cmp(&is_deleted(best))
-                .then(best.rev().cmp(leaf.rev()));
+                .then(best.rev().order(leaf.rev()));
             order == Ordering::Less
         }
         None => true,

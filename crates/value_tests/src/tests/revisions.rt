@@ -1,7 +1,7 @@
 //! Worked examples of revisions: calls with expected results. The examples use each call, without failed allocations.
 use crate::tests::texts::{ancestry, expect_answer, sigs};
 use md5::{Digest, Md5};
-use rev_core::{Ancestry, KeptRev, Rev, new_rev};
+use rev_core::{Ancestry, KeptRev, Rev, SmallRev, new_rev};
 use std::alloc::Global;
 use std::process::Abort;
 use test_support::{rev, rev_text, revs_text, shown};
@@ -26,6 +26,11 @@ enum Call<'a> {
     /// Store a revision in compact form (`KeptRev`), and copy the `KeptRev`. The result says whether the revision's
     /// signature is short, and has the copied revision as a string.
     Keep(&'a str),
+    /// Convert a revision to a `SmallRev`, and copy the `SmallRev`. Read whether the revision is stored in a heap block,
+    /// and read the string of the copy.
+    Small(&'a str),
+    /// Compare two revisions that are converted to values of `SmallRev`.
+    CompareSmall(&'a str, &'a str),
     /// Compute the hexadecimal digits of the digest of a string.
     Digest(&'a str),
     /// Decode hexadecimal digits.
@@ -69,6 +74,8 @@ fn answer(alloc: Global, call: &Call) -> Option<String> {
         Call::Contains(parts, text) => contains_text(alloc, parts, text),
         Call::Parent(parts, text) => parent_text(alloc, parts, text),
         Call::Keep(text) => kept_text(alloc, text),
+        Call::Small(text) => small_text(alloc, text),
+        Call::CompareSmall(one, other) => small_order(alloc, one, other),
         Call::Digest(text) => digest_text(alloc, text),
         Call::Decode(text) => decoded(alloc, text),
         Call::Edit(parent, deleted, body) => edited(alloc, parent, deleted, body),
@@ -220,6 +227,45 @@ fn copy_of_kept(alloc: Global, rev: &Rev) -> Option<String> {
     }
 }
 
+/// Converts a revision to a `SmallRev`.
+fn small(alloc: Global, rev: &Rev) -> Option<SmallRev> {
+    if !SmallRev::is_long(rev) {
+        return Some(SmallRev::inline(rev));
+    }
+    let mut blocks = Vec::new(alloc);
+    let Ok(block) = Box::new(alloc, rev.sig()) else {
+        return None;
+    };
+    match blocks.push(block) {
+        Ok(()) => Some(SmallRev::long(rev, &mut blocks)),
+        Err(_) => None,
+    }
+}
+
+/// Returns `inline ` or `long `, which says whether a `SmallRev` stores the revision in a heap block, and the string of
+/// a copy.
+fn small_text(alloc: Global, text: &str) -> Option<String> {
+    let rev = rev(text)?;
+    let small = small(alloc, &rev)?;
+    let form = if SmallRev::is_long(&rev) {
+        "long "
+    } else {
+        "inline "
+    };
+    let Ok(copy) = small.copy(alloc) else {
+        return None;
+    };
+    let copied = rev_text(alloc, copy.to_rev())?;
+    format!(in alloc; "{form}{copied}").ok()
+}
+
+/// Returns the order of two revisions that are converted to values of `SmallRev`.
+fn small_order(alloc: Global, one: &str, other: &str) -> Option<String> {
+    let one = small(alloc, &rev(one)?)?;
+    let other = small(alloc, &rev(other)?)?;
+    shown(alloc, &one.order(&other))
+}
+
 /// Returns the result of computing the revision of an edit.
 fn edited(alloc: Global, parent: &str, deleted: bool, body: &str) -> Option<String> {
     let parent = if parent.is_empty() {
@@ -346,6 +392,36 @@ static KEPT_ROWS: Rows = &[
         "long 3-0123456789abcdef0",
     ),
 ];
+
+static SMALL_ROWS: Rows = &[
+    (Call::Small("1-a"), "inline 1-a"),
+    (
+        Call::Small("3-0123456789abcdef0"),
+        "inline 3-0123456789abcdef0",
+    ),
+    (
+        Call::Small("2-0123456789ABCDEF0123456789ABCDEF"),
+        "inline 2-0123456789ABCDEF0123456789ABCDEF",
+    ),
+    (
+        Call::Small(DIGITS_AND_ONE),
+        "long 2-0123456789abcdef0123456789abcdef0",
+    ),
+    (
+        Call::Small(LONGEST),
+        "long 1-aaaaaaaaaaaaaaaaaaaaaaaaaaaaaaaaaaaaaaaaaaaaaaaaaaaaaaaaaaaaaaaa",
+    ),
+    (Call::CompareSmall("2-a", "10-a"), "Less"),
+    (Call::CompareSmall(DIGITS_AND_ONE, DIGITS), "Greater"),
+    (Call::CompareSmall(DIGITS, DIGITS), "Equal"),
+    (Call::CompareSmall(LONGEST, "1-aaaaaaaaaaaaaaaaab"), "Less"),
+    (Call::CompareSmall(LONGEST, LONGEST), "Equal"),
+];
+
+#[test]
+fn small_revisions(rt: HostRuntime) {
+    run(&rt, rt.alloc(), SMALL_ROWS);
+}
 
 #[test]
 fn keeps_a_revision(rt: HostRuntime) {

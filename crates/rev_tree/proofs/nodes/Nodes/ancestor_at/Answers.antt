@@ -41,4 +41,4 @@ returns c =
     let nodes = c.args.self.now.items in
     let e : c.loop-i.i + 0 ≡ c.args.steps = omega arith in
     sym (ap (slice_get (ancestors_at nodes c.args.start)) (sym e) ∙ sym (c.loop-i.invariant.left 0)
-    ∙ first_there nodes c.node_at-2.ensures.linked c.loop-i.at c.node_at-2.result.now c.node_at-2.ensures.node ∙ ap Some (sym c.rev.ensures))
+    ∙ first_there nodes c.node_at-2.ensures.linked c.loop-i.at c.node_at-2.result.now c.node_at-2.ensures.node ∙ ap Some (sym c.to_rev.ensures))

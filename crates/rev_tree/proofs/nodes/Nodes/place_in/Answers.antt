@@ -1,5 +1,5 @@
 use Rattle.proof_prelude.proofs.{[], length, is_some, sym, ap, ◌∙◌, subst, arith, nat_eq, lookup}
-use Rattle.rev_tree.specs.{falls, noted_from, Distinct, place_of, revs_in}
+use Rattle.rev_tree.specs.{falls, mark_of, noted_from, Distinct, place_of, revs_in}
 use Rattle.rev_tree.proofs.{none_of, is_some-node_of, place_none, place_at, read_at, length-revs_in, index_empty, index_gone, index_held, index_many, unmarked, marks_within}
 use Rattle.rev_tree.proofs.nodes.Nodes.place_in.Goals as goal
 
@@ -23,7 +23,7 @@ returns-in_err-place-clause-place c =
     let items = c.self.inside.list.items in
     let revs = revs_in items in
     let index = c.self.invariant.index ∙ index_many revs (omega (arith, c.if-as_slice-gt-MOST_WALKED.true, c.as_slice.ensures.len, length-revs_in items)) (index_held revs c.self.inside.places.entries c.self.invariant.index (sym c.is_empty.ensures ∙ c.if-is_empty.false)).1 in
-    let none = sym (ap (λ m. lookup (nat_eq m) (noted_from [] 0 revs)) c.mark_of.ensures) ∙ ap (lookup (nat_eq c.mark_of.result)) (sym index) ∙ sym c.get.ensures ∙ c.in_err-place.was in
+    let none = sym (ap (λ m. lookup (nat_eq m) (noted_from [] 0 revs)) (c.mark_of.ensures ∙ (λ i. mark_of (record { generation = c.generation.ensures.part i; sig = c.sig_bytes.ensures i })))) ∙ ap (lookup (nat_eq c.mark_of.result)) (sym index) ∙ sym c.get.ensures ∙ c.in_err-place.was in
     c.from_residual.ensures
     ∙ sym (none_of _ (place_none items c.args.rev.now 0 ∙ is_some-node_of items c.args.rev.now ∙ unmarked [] 0 revs c.args.rev.now (ap is_some none)))
     ∙ ap (λ v. place_of v.items c.args.rev.now) c.self.view_is

@@ -1,6 +1,6 @@
-use Rattle.proof_prelude.proofs.{◌≡◌, ℕ, Some, slice_get}
+use Rattle.proof_prelude.proofs.{◌≡◌, ℕ, ◌≤◌, Some, drop, length, slice_get}
 use Rattle.rev_core.specs.{RevId}
-use Rattle.rev_tree.specs.{revs_in, tree_of}
+use Rattle.rev_tree.specs.{count_blocks, revs_in, tree_of}
 use Rattle.rev_tree.proofs.{IsPut}
 use Rattle.rev_tree.proofs.nodes.Nodes.put_among.Given as goal
 
@@ -12,4 +12,5 @@ invariant-loop-i l = record {
   kept : (i : ℕ) (r : RevId)
       → slice_get (revs_in l.fn.self.items) i ≡ Some r
       → slice_get (revs_in l.self.items) i ≡ Some r;
+  blocks : count_blocks (drop l.i l.revs) ≤ length l.blocks.items;
 }

@@ -1,7 +1,7 @@
 use Rattle.proof_prelude.proofs.{◌≡◌, ◌-◌, ◌<◌, ◌++◌, ◌∷◌, [], List, length, take, sym, ap, ◌∙◌, subst, refl, arith, take_more, take_all}
 use Rattle.rev_core.specs.{RevId}
 use Rattle.rev_tree.specs.{HasRoom, revs_in, tree_of}
-use Rattle.rev_tree.proofs.{child_at, next_unplaced, put_start, put_next, put_end, new_counts, room_first, room_next, standing}
+use Rattle.rev_tree.proofs.{blocks_first, blocks_next, child_at, next_unplaced, put_start, put_next, put_end, new_counts, room_first, room_next, standing}
 use Rattle.rev_tree.proofs.nodes.Nodes.put_first.Goals as goal
 
 none_taken : (revs : List RevId) → [] ≡ take 0 revs
@@ -18,6 +18,9 @@ push-child-requires-clause-room c =
     subst (HasRoom c.args.self.now) (new_counts c.args.self.now.items r (push-child-requires-clause-new c))
     (room_first c.args.self.now c.args.revs.now r c.requires.ancestry.nonempty c.index-revs-0.is c.requires.room)
 
+pub push-child-requires-clause-blocks : goal.push-child-requires-clause-blocks
+push-child-requires-clause-blocks c = omega (arith, blocks_first c.args.revs.now c.index-revs-0.result c.requires.ancestry.nonempty c.index-revs-0.is, c.requires.blocks)
+
 pub give-requires : goal.give-requires
 give-requires c = record { within = standing c.push-child.new.self c.push-child.result c.index-revs-0.result c.push-child.ensures.gained.at }
 
@@ -32,6 +35,7 @@ loop-i-init c =
       revs =
           c.give.ensures.revs ∙ c.push-child.ensures.revs ∙ ap (λ l. l ++ r ∷ []) (ap revs_in c.requires.none ∙ none_taken revs)
           ∙ sym (take_more revs 0 r c.requires.ancestry.nonempty ∙ ap (λ x. take 0 revs ++ x ∷ []) (sym c.index-revs-0.is));
+      blocks = omega (arith, blocks_first revs r c.requires.ancestry.nonempty c.index-revs-0.is, c.requires.blocks, c.push-child.ensures.blocks);
     }
 
 pub push-parent-requires-clause-new : goal.push-parent-requires-clause-new
@@ -43,6 +47,9 @@ push-parent-requires-clause-room c =
     let r = c.index-revs-i.result in
     subst (HasRoom c.loop-i.self) (new_counts c.loop-i.self.items r (push-parent-requires-clause-new c))
     (room_next c.loop-i.self c.args.revs.now c.loop-i.i r c.loop-i-test.true c.index-revs-i.is c.loop-i.invariant.put.room)
+
+pub push-parent-requires-clause-blocks : goal.push-parent-requires-clause-blocks
+push-parent-requires-clause-blocks c = omega (arith, blocks_next c.args.revs.now c.loop-i.i c.index-revs-i.result c.loop-i-test.true c.index-revs-i.is, c.loop-i.invariant.blocks)
 
 pub link-requires-clause-parent_within : goal.link-requires-clause-parent_within
 link-requires-clause-parent_within c = standing c.push-parent.new.self c.push-parent.result c.index-revs-i.result c.push-parent.ensures.gained.at
@@ -64,6 +71,7 @@ loop-i-preserved c =
       revs =
           c.link.ensures.revs ∙ c.push-parent.ensures.revs ∙ ap (λ l. l ++ r ∷ []) c.loop-i.invariant.revs
           ∙ sym (take_more revs i r c.loop-i-test.true ∙ ap (λ x. take i revs ++ x ∷ []) (sym c.index-revs-i.is));
+      blocks = omega (arith, blocks_next revs i r c.loop-i-test.true c.index-revs-i.is, c.loop-i.invariant.blocks, c.push-parent.ensures.blocks);
     }
 
 pub returns-clause-tree : goal.returns-clause-tree

@@ -10,7 +10,7 @@ walk-preserved c =
     let s = step nodes c.node_at-node.ensures.linked c.walk.at n c.node_at-node.ensures.node c.requires.tree c.in-Some.parent (sym c.parent.ensures ∙ c.in-Some.is) in
     record {
       walked =
-          ap (λ l. l ++ ancestors_at nodes c.in-Some.parent) (c.in_ok-push.ensures.items ∙ ap (λ r. c.walk.revs.items ++ r ∷ []) c.rev-in-walk.ensures)
+          ap (λ l. l ++ ancestors_at nodes c.in-Some.parent) (c.push_reserved.ensures.items ∙ (λ i. c.reserve.ensures.items i ++ c.to_rev.ensures i ∷ []))
           ∙ append_assoc c.walk.revs.items (n.rev ∷ []) (ancestors_at nodes c.in-Some.parent)
           ∙ ap (λ l. c.walk.revs.items ++ l) (sym s.walk) ∙ c.walk.invariant.walked;
       within = s.within;
@@ -21,6 +21,6 @@ walk-smaller c = (step c.args.self.now.items c.node_at-node.ensures.linked c.wal
 
 pub returns : goal.returns
 returns c =
-    c.shrink_to_fit.ensures.items ∙ c.in_ok-push.ensures.items ∙ ap (λ r. c.walk.revs.items ++ r ∷ []) c.rev-in-walk.ensures
+    c.shrink_to_fit.ensures.items ∙ c.push_reserved.ensures.items ∙ (λ i. c.reserve.ensures.items i ++ c.to_rev.ensures i ∷ [])
     ∙ ap (λ l. c.walk.revs.items ++ l) (sym (last c.args.self.now.items c.node_at-node.ensures.linked c.walk.at c.node_at-node.result.now c.node_at-node.ensures.node (sym c.parent.ensures ∙ c.in-None.is)))
     ∙ c.walk.invariant.walked

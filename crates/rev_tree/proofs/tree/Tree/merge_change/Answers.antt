@@ -4,7 +4,7 @@ use Rattle.rev_tree.specs.{TreeValue, IsTree, first_contradiction, merged, IsTre
 use Rattle.rev_tree.proofs.{none_from_answer}
 use Rattle.rev_tree.specs.declared.fault.Merged.TheVariants.{Changed}
 use Rattle.rev_tree.proofs.tree.Tree.merge_change.Goals as goal
-use Rattle.rev_tree.proofs.tree.Tree.merge_change.Goals.{After-self-1}
+use Rattle.rev_tree.proofs.tree.Tree.merge_change.Goals.{After-drop-blocks}
 
 pub put-best-requires-clause-ancestry : goal.put-best-requires-clause-ancestry
 put-best-requires-clause-ancestry c = subst IsAncestry (sym c.revs-revs.ensures.all) c.revs-revs.ensures.ancestry
@@ -19,7 +19,7 @@ put-best-requires-clause-none c =
     ∙ none_from_answer c.args.self.now c.args.ancestry.now Changed c.requires
 
 -- the nodes with the ancestry represent the merged tree, which is a tree
-after : (c : After-self-1) → tree_of c.give_back.new.self.items ≡ merged c.args.self.now c.args.ancestry.now c.args.content c.args.origin
+after : (c : After-drop-blocks) → tree_of c.give_back.new.self.items ≡ merged c.args.self.now c.args.ancestry.now c.args.content c.args.origin
 after c =
     ap tree_of c.give_back.ensures
     ∙ c.put-best.ensures.tree
@@ -27,7 +27,7 @@ after c =
     ∙ ap (λ t. merged t c.revs-revs.result.now c.args.content c.args.origin) c.self.view_is
     ∙ ap (λ revs. merged c.args.self.now revs c.args.content c.args.origin) c.revs-revs.ensures.all
 
-lawful : (c : After-self-1) → IsTree (tree_of c.give_back.new.self.items)
+lawful : (c : After-drop-blocks) → IsTree (tree_of c.give_back.new.self.items)
 lawful c =
     let t = c.args.self.now in
     let revs = c.args.ancestry.now in
