@@ -1,4 +1,4 @@
-//! The functions in this file call functions of `Peer` and `replicate_alone` with large values, such as documents with
+//! The functions in this file call `replicate_alone` and functions of `Peer` with large values, such as documents with
 //! long ancestries. The contracts allow a call to return `Memory` even if no allocation fails, so tests must check that
 //! calls with large values succeed.
 use crate::tests::databases::{edit_text, put_text};
