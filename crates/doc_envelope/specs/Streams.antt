@@ -1,5 +1,5 @@
 -- Defines when output for the first bytes of a document can be written before the rest of the document is read. The
--- bytes of a run (consecutive bytes in a string) are written before later bytes of the document are read, and are not
+-- bytes of a run (consecutive bytes in a string) are written before later bytes of the document are parsed, and are not
 -- stored.
 use Rattle.std.specs.Prelude.{◌≡◌, ℕ, ◌≤◌, ◌-◌, ◌&&◌, ◌==◌, nat_le, nat_lt, length, drop, List, [], ◌∷◌, ◌++◌, Bool, true, not}
 use Rattle.std.specs.List.{list_all}

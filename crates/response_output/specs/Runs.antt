@@ -101,8 +101,8 @@ Breaks (Device fault) s w part bytes held held' = Begins fault s w part bytes he
 
 -- The program's parser has the state r, and a parser that stores each byte would have the state s. The text `part`, the
 -- beginning of the next item, was written already. The program's parser does not store all bytes of a long document. If
--- the current document is long, `front` is the output for the first `at` bytes of the document that the program's
--- parser stored.
+-- `part` is not empty and the program's parser has not rejected a byte, `front` is the output for the first `at` bytes
+-- of the text that the program's parser has stored for the current document.
 pub data Tracks (s r : State) (front : List ℕ) (at : ℕ) (w : Words) (part : List ℕ) : Type 0 where
   tracks_whole : Like s r → front ≡ [] → part ≡ [] → Tracks s r front at w part
   tracks_long : (cut : LongCut) (name : Name) → Mirrors cut name s r → front ≡ cut.front → at ≡ length cut.stored → (length front == 0) ≡ false
@@ -201,8 +201,9 @@ Stopped wanted w left held held' (Device fault) =
     (read : List ℕ) × IsLeft wanted left read
     × (Begins fault (start wanted) w [] read held held' ⊎ EndsInPart fault (all_text w (pieces (start wanted) read)) held held')
 
--- What a conversion of CouchDB's responses has read and written if the conversion ends with the given result. The
--- definition `Answered` describes a success, and the definition `Stopped` describes an error.
+-- What a conversion of CouchDB's responses has read and written if the conversion ends with the given result. The input
+-- of the conversion may be any bytes, even if they are not responses. The definition `Answered` describes a success,
+-- and the definition `Stopped` describes an error.
 abbrev pub Converts : Result ℕ AnswerFault → Wanted → Words → Option (List ℕ) → Option (List ℕ) → Option (List ℕ) → Type 0
 Converts (Ok passed) wanted w left held held' = Answered wanted w left held held' passed
 Converts (Err fault) wanted w left held held' = Stopped wanted w left held held' fault

@@ -18,9 +18,10 @@ pub record IsLong (name : Name) (s : State) : Type 0 where
   pub length_is : long ≤ length s.text
   pub log : is_plain name ≡ true → is_log s.text ≡ false
 
--- A run (bytes of a string that the parser does not store) may follow the text of the state s. The parser may keep the
--- front (the beginning of a document's output) if the front is not empty and the stored text has not grown since the
--- front was built. A new front that the parser builds must begin with the earlier front. The other arguments of
+-- A run (bytes of a string that the parser does not store) may follow the text of the state s. The parser either keeps
+-- the earlier front (the beginning of a document's output) or builds a new front. If the parser keeps the front, the
+-- front is not empty, and the stored text has not grown since the front was built. If the parser builds a new front
+-- from the stored text, the new front is not empty, and begins with the earlier front. The other arguments of
 -- `FollowsFront` are the earlier and the later front, each with the length of the text from which the front was built.
 abbrev pub FollowsFront : State → List ℕ → ℕ → List ℕ → ℕ → Type 0
 FollowsFront s front at front' at' =

@@ -264,8 +264,9 @@ fn walked_to(nodes: &[Node], rev: &Rev) -> Option<usize>
     None
 }
 
-/// Adds the nodes after the first `known` nodes to the index, which maps revisions to positions in the list `nodes`.
-/// The caller has reserved the space that the index needs.
+/// Changes the index of the first `known` nodes in the list `nodes` to the index of all nodes (`index_for`). An index
+/// maps the hashes of revisions to positions in the list `nodes`, or is empty. The caller has reserved the space that
+/// the index needs.
 fn index_rest(nodes: &[Node], places: &mut Places, known: usize)
     requires known { known ≤ length nodes.now }
     requires begun { places.old.entries ≡ index_for (revs_in (take known nodes.now)) }

@@ -1,7 +1,7 @@
 //! The databases of a script: peers by name, the program's settings, and generated ids.
 //!
 //! Each call returns a value or the error of the line (`Refusal`). This crate does not depend on the format of a
-//! script's lines, nor on the format of the output.
+//! script's lines.
 #![tactic(auto)]
 
 mod backups;

@@ -168,8 +168,9 @@ fn loses(
     at
 }
 
-/// Asserts that a parcel has exactly the documents and the gone (requested but missing) revisions that the reference
-/// model `plain` has for the request `asked`. Returns the parcel's number of documents.
+/// Asserts that a parcel has exactly the documents that the reference model `plain` has for the request `asked`, and
+/// that the parcel's gone revisions are exactly those requested revisions that the reference model lacks. Returns the
+/// parcel's number of documents.
 fn brings(
     rt: &impl Abort,
     alloc: Global,

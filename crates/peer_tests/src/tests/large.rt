@@ -1,6 +1,6 @@
-//! The functions in this file call functions of `Peer` with large arguments, such as documents with long ancestries.
-//! The contracts allow a call to return `Memory` even if no allocation fails, so tests must check that calls with large
-//! values succeed.
+//! The functions in this file call `replicate_alone` and functions of `Peer` with large values, such as documents with
+//! long ancestries. The contracts allow a call to return `Memory` even if no allocation fails, so tests must check that
+//! calls with large values succeed.
 use crate::tests::databases::{edit_text, put_text};
 use crate::tests::plans::plan;
 use crate::tests::records::{fault_text, report_text};

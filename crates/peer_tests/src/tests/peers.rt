@@ -647,7 +647,8 @@ fn verdict(alloc: Global, peer: &Peer<Rules>, text: &str) -> Option<String> {
     shown(alloc, &peer.filter().verdict(&doc))
 }
 
-/// Returns, as a string, whether a peer covers (has in a tree or in a session's ledger) a revision of a document.
+/// Returns, as a string, whether a peer covers a revision of a document. A peer covers a revision that is in the peer's
+/// tree of the document, or in the ancestry of this document in a session's ledger.
 fn covered(alloc: Global, peer: &Peer<Rules>, id: &str, text: &str) -> Option<String> {
     let Ok(id) = DocId::parse(alloc, id) else {
         return None;

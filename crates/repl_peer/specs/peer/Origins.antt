@@ -44,10 +44,10 @@ pub record IsFed (p : PeerValue) (id : Id) (r : RevId) (session : SessionId) (se
   pub listed : IsListed by id seq
   pub arrived : IsArrival by id r
 
--- Peer p got revision r of document `id` as the given origin says: by a local write, or in a session at a sequence of
--- the session's source. If the origin is a local write, peer p has the write (`IsLocal`). If the origin is a session
--- and a sequence, peer p has this session. The session of the origin has a row of the document at the origin's
--- sequence, and an arrival (a stored document) with the revision r (`IsFed`).
+-- The given origin of revision r of document `id` is correct at peer p. An origin is a local write, or a session and a
+-- sequence of the session's source. If the origin is a local write, peer p has the write, and the write has revision r
+-- (`IsLocal`). If the origin is a session and a sequence, peer p has this session. The session of the origin has a row
+-- of the document at the origin's sequence, and an arrival (a stored document) with the revision r (`IsFed`).
 abbrev pub ComesFrom : PeerValue → Id → RevId → Origin → Type 0
 ComesFrom p id r (Local n) = IsLocal p id r n
 ComesFrom p id r (Feed session seq) = IsFed p id r session seq

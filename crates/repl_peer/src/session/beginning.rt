@@ -10,7 +10,7 @@ pub struct Scope {
     /// The replication.
     pub rep: RepId,
     /// The life (a number that changes when a database is restored) that the source's database had when the source's
-    /// log was read to compute the session's first sequence.
+    /// log was read to compute the sequence from which the session starts.
     pub life: u64,
     /// The earlier session from whose recorded sequence the session starts, if such a session exists.
     pub base: Option<SessionId>,
