@@ -21,7 +21,8 @@ DB is a name of 1 to 32 letters, digits, `-` or `_`; N is a positive integer.
       Print a `load` line for each document in responses of CouchDB (_bulk_get?revs=true,
       {docid}?open_revs=all&revs=true as JSON, _all_docs?include_docs=true,
       _changes?include_docs=true, _find, a single document), and in files of such
-      documents (couchbackup, couchdb-dump, bodies of _bulk_docs, output of `doc` lines).
+      documents (couchbackup, couchdb-dump, pouchdb-dump, bodies of _bulk_docs, output of
+      `doc` lines).
       The input may contain several of these.
   couch_lines ids [N]
       Print bodies of _bulk_get requests for each leaf in a response of
@@ -43,11 +44,12 @@ DB is a name of 1 to 32 letters, digits, `-` or `_`; N is a positive integer.
       lines that end a conflict); what `compare` finds and counts; the numbers of `info`
       and of sessions; and the sessions of `log`.
 
-A document is an object whose first member is `_id`, or one that a response of CouchDB
-contains. Its text is copied; only white space outside strings may change. An entry that
-contains no document, or for ids and diff no leaf, is skipped, as is a line that
-couch_replicate does not print for trees; the number of skipped entries or lines is printed
-on standard error. `bulk` fails on an object that contains no document.
+A document is an object whose first member is `_id`, an item with a member `_id` of an
+outermost list `docs`, or one that a response of CouchDB contains. Its text is copied; only
+white space outside strings may change. An entry that contains no document, or for ids and
+diff no leaf, is skipped, as is a line that couch_replicate does not print for trees; the
+number of skipped entries or lines is printed on standard error. `bulk` fails on an object
+that contains no document.
 
 With --whole, `load` puts all members except _id, _rev, _revisions and _deleted into one
 string member `whole`, and does not interpret them. So numbers such as 12.5, attachments

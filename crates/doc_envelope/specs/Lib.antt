@@ -12,7 +12,7 @@ pub mod TakeFronts
 pub use Texts.{Closed, EndsString, IsPlain, Spaces, ends, escaped, is_json, is_space, list, nothing, object, other, plain, space, string}
 pub use Members.{Escaped, Mode, Outside, Quoted, ends_member, first_length, is_blank, joined, members_of, mode_behind, nesting_behind, object_of}
 unfoldable pub use Members.{length_in, members_in}
-pub use Names.{has_name, is_log, trimmed, value_of}
+pub use Names.{has_id, has_name, is_log, trimmed, value_of}
 pub use Envelopes.{all_may_stand, envelope_of, enveloped, goes, if_any, if_json, is_envelope, is_envelope_value, may_stand, stays, string_of}
 pub use Envelopes.{unfolded, unfolded_member, unfolded_members, whole_name, whole_of}
 pub use Steps.{added, behind_comma, held_by, held_with, taken_with, text_with, with_held}

@@ -1,7 +1,7 @@
 -- This file defines the name (with the quotation marks) and the value of a member of a JSON object.
 use Rattle.std.specs.Prelude.{ℕ, ◌==◌, nat_eq, length, drop, take, List, [], ◌∷◌, Bool, cond, codes}
-use Rattle.std.specs.List.{starts_with}
-use Rattle.doc_envelope.specs.Members.{first_length}
+use Rattle.std.specs.List.{list_any, starts_with}
+use Rattle.doc_envelope.specs.Members.{Outside, first_length, members_in}
 
 -- A text without leading blanks.
 abbrev pub trimmed : List ℕ → List ℕ
@@ -21,6 +21,10 @@ first_member x = take (first_length (drop 1 x)) (drop 1 x)
 
 abbrev pub id_of : List ℕ → List ℕ
 id_of x = cond (has_name (first_member x) (codes "\"_id\"")) (value_of (first_member x) (codes "\"_id\"")) []
+
+-- Whether an object has a member `_id`.
+abbrev pub has_id : List ℕ → Bool
+has_id x = list_any (λ m. has_name m (codes "\"_id\"")) (members_in Outside 0 [] (drop 1 x))
 
 -- Whether a text is a replication log, which is not a document.
 abbrev pub is_log : List ℕ → Bool

@@ -3,6 +3,7 @@ ghost use Rattle.std.specs.Prelude.{◌≡◌, ◌++◌, ◌∷◌, [], ◌<◌,
 ghost use Rattle.std.specs.Str.{is_utf8};
 ghost use Rattle.doc_envelope.specs.Texts.{is_json};
 ghost use Rattle.doc_envelope.specs.Members.{Outside, is_blank, members_in};
+ghost use Rattle.doc_envelope.specs.Names.{has_id};
 ghost use Rattle.doc_envelope.specs.Envelopes.{stays, enveloped, unfolded, if_any, string_of};
 ghost use Rattle.doc_envelope.specs.Carried.{HasMembers, Envelops, AreOthers, Carries, AreMembers};
 ghost use Rattle.doc_envelope.specs.Steps.{added, held_with, text_with, held_by, taken_with, behind_comma, with_held, texts_with, helds_by, all_taken};
@@ -300,6 +301,21 @@ impl Envelope {
         self.text.extend_from_slice(members.as_bytes())?;
         Ok(true)
     }
+}
+
+/// Whether an object has a member `_id`.
+pub fn has_id(document: &[u8]) -> bool
+    ensures { result ≡ has_id document.now }
+{
+    let mut rest = behind_brace(document);
+    while !rest.is_empty() {
+        let length = first_length(rest);
+        if has_name(&rest[..length], b"\"_id\"") {
+            return true;
+        }
+        rest = behind_comma(rest, length);
+    }
+    false
 }
 
 /// Returns the text after an object's opening brace.

@@ -14,6 +14,6 @@ mod streaming;
 mod takes;
 mod values;
 
-pub use envelope::Envelope;
+pub use envelope::{Envelope, has_id};
 pub use names::{id_of, is_log};
 pub use printed_envelopes::is_printed_envelope;

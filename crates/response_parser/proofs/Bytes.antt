@@ -1,7 +1,7 @@
 -- Single bytes of responses, from a place on, if documents are requested.
 use Rattle.proof_prelude.proofs.{◌≡◌, ℕ, ◌+◌, ◌-◌, ◌==◌, ◌&&◌, nat_lt, length, List, [], ◌∷◌, ◌++◌, Bool, true, false, cond, refl, sym, subst, arith, Some, and_right}
-use Rattle.doc_envelope.specs.{is_space, is_json, IsPlain, is_log}
-use Rattle.response_parser.specs.{wants_documents, wants_leaves, wants_changes, is_strict, covered, name_of, is_plain, step, given, Piece, Holds, document, no_object, of_passed, of_last, of_other, Place, Name}
+use Rattle.doc_envelope.specs.{is_space, is_json, IsPlain, has_id, is_log}
+use Rattle.response_parser.specs.{wants_documents, wants_leaves, wants_changes, is_strict, covered, name_of, is_plain, step, given, Piece, Holds, document, no_object, of_passed, of_last, of_seq, of_other, Place, Name}
 use Rattle.response_parser.specs.State.{State}
 use Rattle.response_parser.specs.declared.place.Place.TheVariants.{Start, Begin, Between, Item, NextItem, AfterItem, Member, NextMember, AfterMember, Key, KeyEscape, Colon, List as ListPlace, Value, Quoted, Escaped}
 use Rattle.response_parser.specs.declared.place.Wanted.{Wanted}
@@ -19,12 +19,6 @@ pub no_changes : (w : Wanted) → wants_documents w ≡ true → wants_changes w
 no_changes Changes h = absurd (cc)
 no_changes _ h = refl
 
--- names in lists have the same meaning if documents are requested
-pub name_same : (w : Wanted) → wants_documents w ≡ true → (first inner : Bool) (d : ℕ) (t : List ℕ) → name_of w first inner false d t ≡ name_of w first false false d t
-name_same Leaves h first inner d t = unfold name_of in absurd (cc)
-name_same Changes h first inner d t = unfold name_of in absurd (cc)
-name_same _ h first inner d t = unfold name_of in refl
-
 -- ---- outside of values
 
 -- What is the same before and after a value: what is requested, whether the innermost list is a document's list of
@@ -38,6 +32,10 @@ pub record Frame : Type 0 where
 -- the frame if documents are requested
 abbrev pub outer : Wanted → Frame
 outer w = record { wanted = w; inner = false; named = false; diff = false }
+
+-- the same within the list `docs` of an outermost object, if the flag says so
+abbrev pub listing : Wanted → Bool → Frame
+listing w inner = record { wanted = w; inner = inner; named = false; diff = false }
 
 -- a parser at a place, with d open lists and objects
 pub record AtIn (f : Frame) (p : Place) (d : ℕ) (s : State) : Type 0 where
@@ -70,6 +68,13 @@ Steps w p d b p' d' ps = (s : State) → At w p d s → At w p' d' (step s b) ×
 steps : (w : Wanted) (p : Place) (d b : ℕ) (p' : Place) (d' : ℕ) (ps : List Piece) → ((s : State) → At w p' d' (step (settled s w p d) b) × (given (step (settled s w p d) b) ≡ ps)) → Steps w p d b p' d' ps
 steps w p d b p' d' ps f s h = subst (λ z. At w p' d' (step z b) × (given (step z b) ≡ ps)) (sym (is_settled s h)) (f s)
 
+-- the same with other frames
+abbrev pub StepsIn : Frame → Place → ℕ → ℕ → Frame → Place → ℕ → List Piece → Type 0
+StepsIn f p d b f' p' d' ps = (s : State) → AtIn f p d s → AtIn f' p' d' (step s b) × (given (step s b) ≡ ps)
+
+steps_in : (f : Frame) (p : Place) (d b : ℕ) (f' : Frame) (p' : Place) (d' : ℕ) (ps : List Piece) → ((s : State) → AtIn f' p' d' (step (settled_in s f p d) b) × (given (step (settled_in s f p d) b) ≡ ps)) → StepsIn f p d b f' p' d' ps
+steps_in f p d b f' p' d' ps g s h = subst (λ z. AtIn f' p' d' (step z b) × (given (step z b) ≡ ps)) (sym (is_settled_in s h)) (g s)
+
 -- the same, whether or not the object has a known member
 steps_known : (w : Wanted) (p : Place) (d b : ℕ) (p' : Place) (d' : ℕ) (ps : List Piece)
     → ((s : State) (k : Bool) → At w p' d' (step (record (settled s w p d) { known = k }) b) × (given (step (record (settled s w p d) { known = k }) b) ≡ ps)) → Steps w p d b p' d' ps
@@ -90,10 +95,15 @@ pub data BeforeList : Place → Type 0 where
   l_between : BeforeList Between
   l_list : BeforeList ListPlace
 
+module _ (w : Wanted) (l : Bool) where
+  pub opens_object : {p : Place} (d : ℕ) → BeforeObject p → nat_lt d 8 ≡ true → StepsIn (listing w l) p d 123 (listing w l) Member (d + 1) []
+  opens_object d o_start h = unfold step in steps_in (listing w l) Start d 123 (listing w l) Member (d + 1) [] (λ s. rw h (record { wanted = refl; inner = refl; named = refl; diff = refl; place = refl; depth = refl }, refl))
+  opens_object d _ h = unfold step in steps_in (listing w l) _ d 123 (listing w l) Member (d + 1) [] (λ s. rw h (record { wanted = refl; inner = refl; named = refl; diff = refl; place = refl; depth = refl }, refl))
+
 module _ (w : Wanted) where
-  pub opens_object : {p : Place} (d : ℕ) → BeforeObject p → nat_lt d 8 ≡ true → Steps w p d 123 Member (d + 1) []
-  opens_object d o_start h = unfold step in steps w Start d 123 Member (d + 1) [] (λ s. rw h (record { wanted = refl; inner = refl; named = refl; diff = refl; place = refl; depth = refl }, refl))
-  opens_object d _ h = unfold step in steps w _ d 123 Member (d + 1) [] (λ s. rw h (record { wanted = refl; inner = refl; named = refl; diff = refl; place = refl; depth = refl }, refl))
+  -- the list `docs` opens
+  pub opens_docs : StepsIn (listing w true) ListPlace 1 91 (listing w true) Item 2 []
+  opens_docs = unfold step in steps_in (listing w true) ListPlace 1 91 (listing w true) Item 2 [] (λ s. (record { wanted = refl; inner = refl; named = refl; diff = refl; place = refl; depth = refl }, refl))
 
   pub opens_list : {p : Place} (d : ℕ) → BeforeList p → wants_changes w ≡ false → nat_lt d 8 ≡ true → Steps w p d 91 Item (d + 1) []
   opens_list d l_start c h = unfold step in steps w Start d 91 Item (d + 1) [] (λ s. rw (c, h) (record { wanted = refl; inner = refl; named = refl; diff = refl; place = refl; depth = refl }, refl))
@@ -107,10 +117,11 @@ closed_at d p = cond (nat_lt 1 (d + 1)) p Between
 pub less_one : (d : ℕ) → (d + 1) - 1 ≡ d
 less_one d = omega arith
 
-module _ (w : Wanted) where
-  pub closes_empty : (d : ℕ) → wants_leaves w ≡ false → is_strict w ≡ false → Steps w Member (d + 1) 125 (closed_at d AfterItem) d []
-  closes_empty d l h = unfold step in steps w Member (d + 1) 125 (closed_at d AfterItem) d [] (λ s. rw (l, h) (record { wanted = refl; inner = refl; named = refl; diff = refl; place = refl; depth = less_one d }, refl))
+module _ (w : Wanted) (l : Bool) where
+  pub closes_empty : (d : ℕ) → wants_leaves w ≡ false → is_strict w ≡ false → StepsIn (listing w l) Member (d + 1) 125 (listing w l) (closed_at d AfterItem) d []
+  closes_empty d leaves h = unfold step in steps_in (listing w l) Member (d + 1) 125 (listing w l) (closed_at d AfterItem) d [] (λ s. rw (leaves, h) (record { wanted = refl; inner = refl; named = refl; diff = refl; place = refl; depth = less_one d }, refl))
 
+module _ (w : Wanted) where
   pub closes_object : (d : ℕ) → is_strict w ≡ false → Steps w AfterMember (d + 1) 125 (closed_at d AfterItem) d []
   unfolding step
   closes_object d h = steps_known w AfterMember (d + 1) 125 (closed_at d AfterItem) d [] by_known where
@@ -124,6 +135,16 @@ module _ (w : Wanted) where
   pub closes_list : (d : ℕ) → Steps w AfterItem (d + 1) 93 (closed_at d AfterMember) d []
   closes_list d = unfold step in steps w AfterItem (d + 1) 93 (closed_at d AfterMember) d [] (λ s. (record { wanted = refl; inner = refl; named = refl; diff = refl; place = refl; depth = less_one d }, refl))
 
+  -- the list `docs` closes
+  pub closes_no_docs : StepsIn (listing w true) Item 2 93 (outer w) AfterMember 1 []
+  closes_no_docs = unfold step in steps_in (listing w true) Item 2 93 (outer w) AfterMember 1 [] (λ s. (record { wanted = refl; inner = refl; named = refl; diff = refl; place = refl; depth = refl }, refl))
+
+  pub closes_docs : StepsIn (listing w true) AfterItem 2 93 (outer w) AfterMember 1 []
+  closes_docs = unfold step in steps_in (listing w true) AfterItem 2 93 (outer w) AfterMember 1 [] (λ s. (record { wanted = refl; inner = refl; named = refl; diff = refl; place = refl; depth = refl }, refl))
+
+  pub doc_comma : StepsIn (listing w true) AfterItem 2 44 (listing w true) NextItem 2 []
+  doc_comma = unfold step in steps_in (listing w true) AfterItem 2 44 (listing w true) NextItem 2 [] (λ s. (record { wanted = refl; inner = refl; named = refl; diff = refl; place = refl; depth = refl }, refl))
+
   pub item_comma : (d : ℕ) → Steps w AfterItem d 44 NextItem d []
   item_comma d = unfold step in steps w AfterItem d 44 NextItem d [] (λ s. (record { wanted = refl; inner = refl; named = refl; diff = refl; place = refl; depth = refl }, refl))
 
@@ -132,6 +153,9 @@ module _ (w : Wanted) where
 
   pub list_colon : (d : ℕ) → wants_leaves w ≡ false → Steps w (Colon names.List) d 58 ListPlace d []
   list_colon d l = unfold step in steps w (Colon names.List) d 58 ListPlace d [] (λ s. rw l (record { wanted = refl; inner = refl; named = refl; diff = refl; place = refl; depth = refl }, refl))
+
+  pub docs_colon : wants_leaves w ≡ false → StepsIn (outer w) (Colon names.Docs) 1 58 (listing w true) ListPlace 1 []
+  docs_colon leaves = unfold step in steps_in (outer w) (Colon names.Docs) 1 58 (listing w true) ListPlace 1 [] (λ s. rw leaves (record { wanted = refl; inner = refl; named = refl; diff = refl; place = refl; depth = refl }, refl))
 
 -- ---- white space
 
@@ -249,8 +273,8 @@ module _ (w : Wanted) (docs : wants_documents w ≡ true) (f : Bool) (d : ℕ) (
   key_end name other says = unfold step in keys (At w (Colon name) d) (outer w) Key f d u 34 [] (λ s. rw (json, says, other) (record { wanted = refl; inner = refl; named = refl; diff = refl; place = refl; depth = refl }, refl))
 
 module _ (w : Wanted) (f : Bool) (d : ℕ) (u : List ℕ) (json : is_json (u ++ 34 ∷ []) ≡ true) where
-  pub key_itself : ((inner : Bool) → name_of w f inner false d (u ++ 34 ∷ []) ≡ names.Plain) → Leads1 (InKey (outer w) Key f d u) 34 (Within (outer w) (Value names.Plain) d 1 (123 ∷ 34 ∷ 95 ∷ 105 ∷ 100 ∷ 34 ∷ [])) []
-  key_itself says = unfold step in keys (Within (outer w) (Value names.Plain) d 1 (123 ∷ 34 ∷ 95 ∷ 105 ∷ 100 ∷ 34 ∷ [])) (outer w) Key f d u 34 [] (λ s. rw (json, says false) (record { wanted = refl; inner = refl; named = refl; diff = refl; place = refl; depth = refl; nesting = refl; text = refl }, refl))
+  pub key_itself : (l : Bool) (name : Name) → is_plain name ≡ true → name_of w f l false d (u ++ 34 ∷ []) ≡ name → Leads1 (InKey (listing w l) Key f d u) 34 (Within (listing w l) (Value name) d 1 (123 ∷ (u ++ 34 ∷ []))) []
+  key_itself l name plain says = unfold step in keys (Within (listing w l) (Value name) d 1 (123 ∷ (u ++ 34 ∷ []))) (listing w l) Key f d u 34 [] (λ s. rw (json, says, plain) (record { wanted = refl; inner = refl; named = refl; diff = refl; place = refl; depth = refl; nesting = refl; text = refl }, refl))
 
 module _ (w : Wanted) (leaves : wants_leaves w ≡ false) where
   pub value_colon : {name : Name} {u : List ℕ} {ps : List Piece} (d : ℕ) → Holds w name u ps → Leads1 (At w (Colon name) d) 58 (Within (outer w) (Value name) d 0 []) []
@@ -326,6 +350,10 @@ module _ (w : Wanted) (d : ℕ) (u : List ℕ) (json : is_json u ≡ true) where
     by_known : (s : State) (k : Bool) → At w (closed_at d AfterItem) d (step (record (held_in s (outer w) (Value names.Last) (d + 1) 0 u) { known = k }) 125) × (given (step (record (held_in s (outer w) (Value names.Last) (d + 1) 0 u) { known = k }) 125) ≡ [])
     by_known s true = rw json (record { wanted = refl; inner = refl; named = refl; diff = refl; place = refl; depth = less_one d }, refl)
     by_known s false = rw (json, h) (record { wanted = refl; inner = refl; named = refl; diff = refl; place = refl; depth = less_one d }, refl)
+  ends_brace h of_seq = within_known (At w (closed_at d AfterItem) d) (outer w) (Value names.Seq) (d + 1) 0 u 125 [] by_known where
+    by_known : (s : State) (k : Bool) → At w (closed_at d AfterItem) d (step (record (held_in s (outer w) (Value names.Seq) (d + 1) 0 u) { known = k }) 125) × (given (step (record (held_in s (outer w) (Value names.Seq) (d + 1) 0 u) { known = k }) 125) ≡ [])
+    by_known s true = rw json (record { wanted = refl; inner = refl; named = refl; diff = refl; place = refl; depth = less_one d }, refl)
+    by_known s false = rw (json, h) (record { wanted = refl; inner = refl; named = refl; diff = refl; place = refl; depth = less_one d }, refl)
   ends_brace h of_other = within_known (At w (closed_at d AfterItem) d) (outer w) (Value names.Other) (d + 1) 0 u 125 [] by_known where
     by_known : (s : State) (k : Bool) → At w (closed_at d AfterItem) d (step (record (held_in s (outer w) (Value names.Other) (d + 1) 0 u) { known = k }) 125) × (given (step (record (held_in s (outer w) (Value names.Other) (d + 1) 0 u) { known = k }) 125) ≡ [])
     by_known s true = rw json (record { wanted = refl; inner = refl; named = refl; diff = refl; place = refl; depth = less_one d }, refl)
@@ -333,14 +361,24 @@ module _ (w : Wanted) (d : ℕ) (u : List ℕ) (json : is_json u ≡ true) where
 
 -- ---- the brace that closes a document that is the object itself
 
-module _ (w : Wanted) (d : ℕ) (u : List ℕ) (json : is_json (u ++ 125 ∷ []) ≡ true) where
+module _ (w : Wanted) (l : Bool) (d : ℕ) (u : List ℕ) (json : is_json (u ++ 125 ∷ []) ≡ true) where
   pub itself_ends : (v : List ℕ) → wants_documents w ≡ true → is_log (u ++ 125 ∷ []) ≡ false → covered w (u ++ 125 ∷ []) ≡ Some v
-      → Leads1 (Within (outer w) (Value names.Plain) (d + 1) 1 u) 125 (At w (closed_at d AfterItem) d) ((found.Document, v) ∷ [])
-  itself_ends v docs e c = unfold step in within (At w (closed_at d AfterItem) d) (outer w) (Value names.Plain) (d + 1) 1 u 125 ((found.Document, v) ∷ []) (λ s. rw (json, docs, e, c) (record { wanted = refl; inner = refl; named = refl; diff = refl; place = refl; depth = less_one d }, refl))
+      → Leads1 (Within (listing w l) (Value names.Plain) (d + 1) 1 u) 125 (AtIn (listing w l) (closed_at d AfterItem) d) ((found.Document, v) ∷ [])
+  itself_ends v docs e c = unfold step in within (AtIn (listing w l) (closed_at d AfterItem) d) (listing w l) (Value names.Plain) (d + 1) 1 u 125 ((found.Document, v) ∷ []) (λ s. rw (json, docs, e, c) (record { wanted = refl; inner = refl; named = refl; diff = refl; place = refl; depth = less_one d }, refl))
 
-  pub log_ends : wants_documents w ≡ true → is_log (u ++ 125 ∷ []) ≡ true → Leads1 (Within (outer w) (Value names.Plain) (d + 1) 1 u) 125 (At w (closed_at d AfterItem) d) []
-  log_ends docs e = unfold step in within (At w (closed_at d AfterItem) d) (outer w) (Value names.Plain) (d + 1) 1 u 125 [] (λ s. rw (json, docs, e) (record { wanted = refl; inner = refl; named = refl; diff = refl; place = refl; depth = less_one d }, refl))
+  pub log_ends : wants_documents w ≡ true → is_log (u ++ 125 ∷ []) ≡ true → Leads1 (Within (listing w l) (Value names.Plain) (d + 1) 1 u) 125 (AtIn (listing w l) (closed_at d AfterItem) d) []
+  log_ends docs e = unfold step in within (AtIn (listing w l) (closed_at d AfterItem) d) (listing w l) (Value names.Plain) (d + 1) 1 u 125 [] (λ s. rw (json, docs, e) (record { wanted = refl; inner = refl; named = refl; diff = refl; place = refl; depth = less_one d }, refl))
 
   -- if no documents are requested
-  pub unwanted_ends : wants_documents w ≡ false → Leads1 (Within (outer w) (Value names.Plain) (d + 1) 1 u) 125 (At w (closed_at d AfterItem) d) []
-  unwanted_ends docs = unfold step in within (At w (closed_at d AfterItem) d) (outer w) (Value names.Plain) (d + 1) 1 u 125 [] (λ s. rw (json, docs) (record { wanted = refl; inner = refl; named = refl; diff = refl; place = refl; depth = less_one d }, refl))
+  pub unwanted_ends : wants_documents w ≡ false → Leads1 (Within (listing w l) (Value names.Plain) (d + 1) 1 u) 125 (AtIn (listing w l) (closed_at d AfterItem) d) []
+  unwanted_ends docs = unfold step in within (AtIn (listing w l) (closed_at d AfterItem) d) (listing w l) (Value names.Plain) (d + 1) 1 u 125 [] (λ s. rw (json, docs) (record { wanted = refl; inner = refl; named = refl; diff = refl; place = refl; depth = less_one d }, refl))
+
+-- ---- the brace that closes an item of `docs` whose first member is not `_id`
+
+module _ (w : Wanted) (d : ℕ) (u : List ℕ) (json : is_json (u ++ 125 ∷ []) ≡ true) where
+  pub late_ends : (v : List ℕ) → has_id (u ++ 125 ∷ []) ≡ true → covered w (u ++ 125 ∷ []) ≡ Some v
+      → Leads1 (Within (listing w true) (Value names.Item) (d + 1) 1 u) 125 (AtIn (listing w true) (closed_at d AfterItem) d) ((found.Document, v) ∷ [])
+  late_ends v e c = unfold step in within (AtIn (listing w true) (closed_at d AfterItem) d) (listing w true) (Value names.Item) (d + 1) 1 u 125 ((found.Document, v) ∷ []) (λ s. rw (json, e, c) (record { wanted = refl; inner = refl; named = refl; diff = refl; place = refl; depth = less_one d }, refl))
+
+  pub no_id_ends : is_strict w ≡ false → has_id (u ++ 125 ∷ []) ≡ false → Leads1 (Within (listing w true) (Value names.Item) (d + 1) 1 u) 125 (AtIn (listing w true) (closed_at d AfterItem) d) []
+  no_id_ends h e = unfold step in within (AtIn (listing w true) (closed_at d AfterItem) d) (listing w true) (Value names.Item) (d + 1) 1 u 125 [] (λ s. rw (json, e, h) (record { wanted = refl; inner = refl; named = refl; diff = refl; place = refl; depth = less_one d }, refl))

@@ -170,7 +170,7 @@ some_changes t ps (empty {b} {t = rest} h m) = then (blank_step Changes b h) (so
 some_changes t ps (change n {k} {r} {t = rest} {ps = revs} {qs} h k_ends json m more) =
     joined change_word (joined (digits n h) (then seq_end (then id_begins (joined (id_text (34 ∷ []) k k_ends json) (then id_blank (joined (some_revs r revs m) (some_changes rest qs more)))))))
 some_changes t ps (object {o} {u} {t = rest} h m) =
-    joined (to_between (from_either (unwanted Changes refl 0 o u refl o_begin refl h) (unwanted Changes refl 0 o u refl o_between refl h))) (some_changes rest ps m)
+    joined (to_between (from_either (unwanted Changes refl false 0 o u refl o_begin refl h) (unwanted Changes refl false 0 o u refl o_between refl h))) (some_changes rest ps m)
 some_changes t ps (word {b} w {t = rest} h e n other m) =
     then (word_begins b e h) (joined (word_text (b ∷ []) w n) (then (word_end (b ∷ w) other) (some_changes rest ps m)))
 some_changes t ps (words {b} w x {t = rest} h e n other line m) =

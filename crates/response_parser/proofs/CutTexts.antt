@@ -1,11 +1,11 @@
 -- The texts and the outputs of a document with and without its runs.
-use Rattle.proof_prelude.proofs.{◌≡◌, ℕ, ◌≤◌, slice_index, List, ◌++◌, true, refl, Some, None}
+use Rattle.proof_prelude.proofs.{◌≡◌, ℕ, slice_index, List, ◌++◌, true, refl, Some, None}
 use Rattle.doc_envelope.specs.{is_json, is_log}
 use Rattle.doc_envelope.specs.Names.{id_of}
 use Rattle.doc_envelope.specs.Streams.{Front, start, run, next}
 use Rattle.doc_envelope.proofs.{put_front_first, put_front_id, put_front_json, put_front_log, put_front_none, put_front_some, take_front_first, take_front_id, take_front_json, take_front_log, take_front_none, take_front_some}
 use Rattle.response_parser.specs.{covered, wants_documents}
-use Rattle.response_parser.specs.Fronts.{Cut, IsCut, IsStart}
+use Rattle.response_parser.specs.Fronts.{Cut, IsCut}
 use Rattle.response_parser.specs.declared.place.Wanted.{Wanted}
 use Rattle.response_parser.specs.declared.place.Wanted.TheVariants.{Documents, Enveloped, Bodies, Unfolded, Leaves, Changes}
 

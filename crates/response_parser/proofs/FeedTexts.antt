@@ -1,5 +1,5 @@
 -- Responses to `_changes` and `_revs_diff` are parsed as the leaves in them.
-use Rattle.proof_prelude.proofs.{◌≡◌, ℕ, ◌+◌, ◌-◌, ◌==◌, ◌&&◌, ◌||◌, nat_lt, slice_index, List, [], ◌∷◌, ◌++◌, Bool, true, false, cond, codes, refl, sym, ap, subst, ◌∙◌, append_assoc, append-nil, inr, list_all, and_parts, is_utf8-from_IsUtf8, bytes_eq, arith}
+use Rattle.proof_prelude.proofs.{◌≡◌, ℕ, ◌+◌, ◌==◌, ◌&&◌, ◌||◌, nat_lt, slice_index, List, [], ◌∷◌, ◌++◌, Bool, true, false, cond, codes, refl, sym, ap, subst, ◌∙◌, append_assoc, append-nil, inr, list_all, and_parts, is_utf8-from_IsUtf8, bytes_eq, arith}
 use Rattle.json.proofs.Printed.Utf8.{IsUtf8-are_ascii}
 use Rattle.json.proofs.OnLiterals.{json_on_literals}
 use Rattle.doc_envelope.specs.{Spaces, EndsString, Closed, is_space, is_json, ends, plain, escaped}
@@ -7,14 +7,14 @@ use Rattle.response_parser.specs.{name_of, is_plain, step, start, after, given, 
 use Rattle.response_parser.specs.State.{State}
 use Rattle.response_parser.specs.Names.{is_id, leaf_name}
 use Rattle.response_parser.specs.Objects.{value_begun}
-use Rattle.response_parser.specs.FeedGrammar.{AreMembersOf, last_member, member, IsObjectOf, object_of, AreItemsOf, last_item_of, item_of, IsListOf, no_items_of, items_of, is_skipped, IsSkipped, skipped, IsSkippedOutside, skipped_outside, IsRevMember, rev_of, skipped_rev, IsRowMember, id_of, changes_of, skipped_row, IsPageMember, results_of, skipped_page, AreMissing, last_missing, missing, IsEntryMember, missing_of, skipped_entry, IsDiffMember, entry_of, AreLeaves, page, difference, no_difference}
+use Rattle.response_parser.specs.FeedGrammar.{AreMembersOf, last_member, member, IsObjectOf, object_of, AreItemsOf, last_item_of, item_of, IsListOf, no_items_of, items_of, is_skipped, IsSkipped, skipped, skipped_outside, IsRevMember, rev_of, skipped_rev, IsRowMember, id_of, changes_of, skipped_row, IsPageMember, results_of, skipped_page, AreMissing, last_missing, missing, IsEntryMember, missing_of, skipped_entry, IsDiffMember, entry_of, AreLeaves, page, difference, no_difference}
 use Rattle.response_parser.specs.declared.place.Place.TheVariants.{Start, Between, Item, NextItem, AfterItem, Member, NextMember, AfterMember, Key, Colon, Ahead, List as ListPlace, Value, Revs}
 use Rattle.response_parser.specs.declared.place.RevPlace.{RevPlace}
 use Rattle.response_parser.specs.declared.place.RevPlace.TheVariants as revs
 use Rattle.response_parser.specs.declared.place.Wanted.TheVariants.{Leaves}
 use Rattle.response_parser.specs.declared.place.Name.TheVariants as names
 use Rattle.response_parser.specs.declared.place.Found.TheVariants as found
-use Rattle.response_parser.proofs.Bytes.{Frame, AtIn, settled_in, from_in, InKey, key_in, is_key_in, keys, BeginsKey, first_key, next_key, Within, held_in, within, within_known, Leads1, BeforeObject, o_start, o_between, o_item, o_next, MaySpace, s_start, s_between, s_item, s_next_item, s_after_item, s_member, s_next_member, s_after_member, s_list, less_one}
+use Rattle.response_parser.proofs.Bytes.{Frame, AtIn, settled_in, from_in, InKey, key_in, is_key_in, keys, BeginsKey, first_key, next_key, Within, held_in, within, within_known, Leads1, BeforeObject, o_start, o_item, o_next, MaySpace, s_start, s_between, s_item, s_next_item, s_after_item, s_member, s_next_member, s_after_member, s_list, less_one}
 use Rattle.response_parser.proofs.Texts.{Leads, none_read, then, then_held, joined, pieces_to, text_to, spaces_in, lead_spaces, key_to, value_text}
 
 abbrev framed : Bool → Bool → Bool → Frame

@@ -92,7 +92,7 @@ module _ (w : Wanted) (docs : wants_documents w ≡ true) (strict : is_strict w 
   some_lines t ps (blank {b} {t = rest} h m) = then (blank_step w b h) (some_lines rest ps m)
   some_lines t ps (document {o} {t = rest} {ps = ins} {qs} h m) =
       let leaves = no_leaves w docs in
-      joined (to_between (from_either (a_document w leaves 0 o ins docs o_begin refl h) (a_document w leaves 0 o ins docs o_between refl h))) (some_lines rest qs m)
+      joined (to_between (from_either (a_document w leaves false 0 o ins docs o_begin refl h) (a_document w leaves false 0 o ins docs o_between refl h))) (some_lines rest qs m)
   some_lines t ps (answer {b} x {t = rest} h e n m) =
       let k = lower_bracket b h in
       then (word_begins w docs strict b e k.0 k.1 h) (joined (passed x n) (then (line_end w docs strict) (some_lines rest ps m)))

@@ -1,14 +1,12 @@
 -- Several bytes of a long document, of which some are not stored.
-use Rattle.proof_prelude.proofs.{◌≡◌, ℕ, ◌≤◌, ◌+◌, ◌==◌, length, List, [], ◌∷◌, ◌++◌, Bool, true, false, refl, sym, ap, subst, ◌∙◌, append_assoc, append-nil, length-append, arith}
-use Rattle.doc_envelope.specs.Streams.{Front, IsRun, start, run, next}
-use Rattle.response_parser.specs.{step, is_refused, after, given, pieces, piece_of, Piece, Place, Refusal, Found, Name}
+use Rattle.proof_prelude.proofs.{◌≡◌, ℕ, List, [], ◌∷◌, ◌++◌, true, refl, sym, ap, subst, ◌∙◌, append-nil}
+use Rattle.response_parser.specs.{step, is_refused, after, given, pieces, piece_of, Piece, Place, Refusal, Name}
 use Rattle.response_parser.specs.State.{State}
 use Rattle.response_parser.specs.Steps.{begun}
-use Rattle.response_parser.specs.Runs.{more_by}
-use Rattle.response_parser.specs.Fronts.{Cut, IsCut, IsStart, HasWritten, IsLate, long}
-use Rattle.response_parser.specs.Mirrors.{Like, equal, alike, InDocument, Mirrors, Rejected}
-use Rattle.response_parser.specs.declared.place.Place.TheVariants.{Quoted, Refused}
-use Rattle.response_parser.specs.declared.place.Found.TheVariants.{Nothing, Document, Id, Rev}
+use Rattle.response_parser.specs.Fronts.{Cut, HasWritten}
+use Rattle.response_parser.specs.Mirrors.{Like, equal, alike, Mirrors, Rejected}
+use Rattle.response_parser.specs.declared.place.Place.TheVariants.{Refused}
+use Rattle.response_parser.specs.declared.place.Found.TheVariants.{Nothing, Document}
 use Rattle.response_parser.proofs.Readings.{after-append, pieces-append}
 use Rattle.response_parser.proofs.Mirroring.{Outcome, going, rejected, found, late, like_after, step_out}
 

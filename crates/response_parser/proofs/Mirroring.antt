@@ -1,24 +1,23 @@
 -- A parser that does not store the runs of a long document.
-use Rattle.proof_prelude.proofs.{◌≡◌, ℕ, ◌+◌, ◌-◌, ◌<◌, ◌≤◌, ◌==◌, ◌&&◌, ◌||◌, nat_lt, nat_eq, length, drop, take, slice_index, List, [], ◌∷◌, ◌++◌, Bool, true, false, cond, not, refl, sym, ap, subst, ◌∙◌, append_assoc, append-nil, arith, Option, Some, None, codes, starts_with, and_parts, take-append-drop}
+use Rattle.proof_prelude.proofs.{◌≡◌, ℕ, ◌+◌, ◌-◌, ◌≤◌, ◌==◌, ◌&&◌, ◌||◌, nat_lt, nat_eq, length, drop, take, slice_index, List, [], ◌∷◌, ◌++◌, Bool, true, false, cond, not, refl, sym, ap, subst, ◌∙◌, append_assoc, arith, Option, Some, None, codes, starts_with, and_parts, take-append-drop}
 use Rattle.std.proofs.lemmas.Bool.Decides.{Decides-eqb}
 use Rattle.std.proofs.lemmas.Slice.Eq.{starts_is}
 use Rattle.std.proofs.lemmas.List.{take-append-le}
 use Rattle.std.proofs.Math.Seq.{take-append_seam}
 use Rattle.doc_envelope.specs.{is_json, is_log, is_space}
 use Rattle.doc_envelope.specs.Names.{id_of}
-use Rattle.response_parser.specs.{step, is_refused, is_plain, after, given, pieces, piece_of, Piece, Place, Refusal, Found, Name, covered, is_strict, wants_changes, wants_documents, wants_leaves}
+use Rattle.response_parser.specs.{step, is_refused, is_plain, after, given, pieces, piece_of, Place, Refusal, Name, covered, is_strict, wants_changes, wants_documents, wants_leaves}
 use Rattle.response_parser.specs.State.{State, added, more, at, refused}
 use Rattle.response_parser.specs.Steps.{begun, moved}
 use Rattle.response_parser.specs.Lines.{is_lower}
 use Rattle.response_parser.specs.Objects.{opened, closed, list_closed, key_begun, object_closed, behind_object, max_depth}
-use Rattle.response_parser.specs.Values.{document_found, found_as, in_quoted, in_value as in_value_step, judged, less_deep, plain_ended, shallower, spaced, value_ended, value_passed}
+use Rattle.response_parser.specs.Values.{document_found, found_as, in_quoted, in_value as in_value_step, judged, less_deep, object_ended, plain_ended, shallower, spaced, value_ended, value_passed}
 use Rattle.response_parser.specs.Fronts.{Cut, IsCut, HasWritten, IsLate, long}
-use Rattle.response_parser.specs.Mirrors.{Like, equal, alike, is_idle, is_document, IsWithin, in_value, in_string, in_escape, InDocument, Mirrors}
+use Rattle.response_parser.specs.Mirrors.{Like, equal, alike, is_idle, is_document, IsWithin, in_value, in_string, in_escape, Mirrors}
 use Rattle.response_parser.specs.declared.place.Place.TheVariants.{Between, Item, NextItem, AfterItem, Member, NextMember, AfterMember, Value, Quoted, Escaped, Refused}
-use Rattle.response_parser.specs.declared.place.Refusal.TheVariants.{NoAnswer, NoDocument, NotJson, NotWhole}
+use Rattle.response_parser.specs.declared.place.Refusal.TheVariants.{NoAnswer, NoDocument, NotJson}
 use Rattle.response_parser.specs.declared.place.Found.TheVariants.{Nothing, Document}
 use Rattle.response_parser.specs.declared.place.Name.TheVariants as names
-use Rattle.response_parser.specs.declared.place.Wanted.{Wanted}
 use Rattle.response_parser.proofs.CutTexts.{cut_first, cut_id, cut_json, cut_log, cut_none, cut_some, cut_wants}
 
 -- ---- places where the parser does not read its text
@@ -270,6 +269,10 @@ kept_out c name s u t x z k begun enough full_text stored_text nothing =
 
 -- ---- one byte of a document
 
+only_plain : (n : Name) → is_document n ≡ true → is_plain n ≡ true → n ≡ names.Plain
+only_plain names.Plain d h = refl
+only_plain _ d h = absurd (cc)
+
 only_document : (n : Name) → is_document n ≡ true → is_plain n ≡ false → n ≡ names.Document
 only_document names.Document d h = refl
 only_document _ d h = absurd (cc)
@@ -363,10 +366,14 @@ module _ {c : Cut} {name : Name} (s : State) (u : List ℕ) (m : Mirrors c name 
       (λ k. let yes = wants_it b h in absurd (cc)))
       (λ e. rejected (alike refl refl) refl m.document.found (record { cut = c; behind = t; text = text_more b; begun = m.begun; length_is = m.full_length; is = refl }))
 
+  object_out : (b : ℕ) → is_plain name ≡ true → Outcome c name (object_ended name (less_deep full b)) (object_ended name (less_deep s b))
+  object_out b h =
+      subst (λ n. Outcome c name (object_ended n (less_deep full b)) (object_ended n (less_deep s b))) (sym (only_plain name m.document.document h)) (plain_out b h)
+
   shallower_out : (b : ℕ) → Outcome c name (shallower name full b) (shallower name s b)
   shallower_out b =
       outcome_cond (s.nesting == 0) (λ e. rejects NotJson)
-      (λ e. outcome_cond (s.nesting == 1 && is_plain name) (λ k. plain_out b (and_parts (s.nesting == 1) (is_plain name) k).1)
+      (λ e. outcome_cond (s.nesting == 1 && is_plain name) (λ k. object_out b (and_parts (s.nesting == 1) (is_plain name) k).1)
       (λ k. going_at b (s.nesting - 1) s.place m.place (not_last s.nesting (is_plain name) e k)))
 
   spaced_out : Outcome c name (spaced full) (spaced s)

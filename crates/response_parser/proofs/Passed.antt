@@ -1,19 +1,18 @@
 -- A run of a long document that is not stored.
-use Rattle.proof_prelude.proofs.{◌≡◌, ℕ, ◌≤◌, ◌+◌, ◌==◌, nat_eq, length, drop, take, slice_index, List, [], ◌∷◌, ◌++◌, Bool, true, false, refl, sym, ap, subst, ◌∙◌, append_assoc, append-nil, length-append, inl, inr, arith, list_all, and_parts}
-use Rattle.doc_envelope.specs.Streams.{Front, IsRun, is_streamable, start, run, next}
+use Rattle.proof_prelude.proofs.{◌≡◌, ℕ, ◌≤◌, ◌+◌, ◌==◌, length, drop, slice_index, List, [], ◌∷◌, ◌++◌, true, false, refl, sym, ap, subst, ◌∙◌, append-nil, length-append, inl, inr, arith, list_all, and_parts}
+use Rattle.doc_envelope.specs.Streams.{IsRun, is_streamable, start, run, next}
 use Rattle.doc_envelope.specs.{is_log}
 use Rattle.json.specs.Run.{is_plain as is_plain_byte}
-use Rattle.response_parser.specs.{after, pieces, Place, Name}
+use Rattle.response_parser.specs.{after, pieces, Name}
 use Rattle.response_parser.specs.State.{State}
 use Rattle.response_parser.specs.Runs.{IsInValue, Copies, more_by}
 use Rattle.response_parser.specs.Fronts.{Cut, IsCut, IsStart, long}
-use Rattle.response_parser.specs.Mirrors.{Like, equal, alike, is_idle, IsWithin, in_string, InDocument, Mirrors}
+use Rattle.response_parser.specs.Mirrors.{Like, equal, alike, is_idle, IsWithin, in_string, Mirrors}
 use Rattle.response_parser.specs.Passing.{IsLong, FollowsFront, Passes}
 use Rattle.response_parser.specs.declared.place.Place.TheVariants.{Quoted}
 use Rattle.response_parser.specs.declared.place.Found.TheVariants.{Nothing}
-use Rattle.response_parser.specs.declared.place.Wanted.{Wanted}
 use Rattle.response_parser.proofs.RunTexts.{copies_run}
-use Rattle.response_parser.proofs.Mirroring.{begins_front, first_more, full_first, some_first}
+use Rattle.response_parser.proofs.Mirroring.{begins_front, full_first, some_first}
 
 plain_byte : (b : ℕ) → is_streamable b ≡ true → is_plain_byte b ≡ true
 plain_byte b h = grind arith

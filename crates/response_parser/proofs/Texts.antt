@@ -99,7 +99,7 @@ suc_not_zero n = grind arith
 below : (n : ℕ) → n < 128 → nat_lt n 128 ≡ true
 below n h = grind arith
 
-nonempty : (u : List ℕ) (b : ℕ) (v : List ℕ) → (length (u ++ b ∷ v) == 0) ≡ false
+pub nonempty : (u : List ℕ) (b : ℕ) (v : List ℕ) → (length (u ++ b ∷ v) == 0) ≡ false
 nonempty [] b v = suc_not_zero (length v)
 nonempty (a ∷ u) b v = suc_not_zero (length (u ++ b ∷ v))
 

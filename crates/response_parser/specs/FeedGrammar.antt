@@ -42,14 +42,17 @@ pub data IsListOf (Item : List ℕ → List Piece → Type 0) : List ℕ → Lis
 -- Whether a member whose name has the given meaning is skipped.
 abbrev pub is_skipped : Name → Bool
 is_skipped names.Plain = false
+is_skipped names.Item = false
 is_skipped names.Document = false
 is_skipped names.Id = false
 is_skipped names.List = false
+is_skipped names.Docs = false
 is_skipped names.Changes = false
 is_skipped names.Rev = false
 is_skipped names.Missing = false
 is_skipped names.Passed = false
 is_skipped names.Last = true
+is_skipped names.Seq = false
 is_skipped names.Error = false
 is_skipped names.Reason = false
 is_skipped names.Other = true

@@ -2,13 +2,13 @@
 -- "CouchDB's answers". The grammar of the kit's JSON library decides whether a text is JSON (`is_json`).
 use Rattle.std.specs.Prelude.{◌≡◌, ℕ, ◌+◌, ◌<◌, ◌==◌, slice_index, List, [], ◌∷◌, ◌++◌, Bool, true, false, codes, Some}
 use Rattle.doc_envelope.specs.Texts.{Spaces, EndsString, Closed, is_space, is_json}
-use Rattle.doc_envelope.specs.Names.{is_log}
+use Rattle.doc_envelope.specs.Names.{has_id, is_log}
 use Rattle.response_parser.specs.Wanted.{covered}
 use Rattle.response_parser.specs.Names.{name_of}
 use Rattle.response_parser.specs.Reading.{Piece}
 use Rattle.response_parser.specs.declared.place.Wanted.{Wanted}
 use Rattle.response_parser.specs.declared.place.Name.{Name}
-use Rattle.response_parser.specs.declared.place.Name.TheVariants.{Document, Passed, Last, Other, List as ListName}
+use Rattle.response_parser.specs.declared.place.Name.TheVariants.{Document, Item, Passed, Last, Seq, Other, Docs, List as ListName}
 use Rattle.response_parser.specs.declared.place.Found.TheVariants as found
 
 -- ---- values and names
@@ -35,6 +35,7 @@ pub data Holds (wanted : Wanted) : Name → List ℕ → List Piece → Type 0 w
   no_object : {u : List ℕ} → (slice_index u 0 == 123) ≡ false → Holds wanted Document u []
   of_passed : {u : List ℕ} → Holds wanted Passed u []
   of_last : {u : List ℕ} → Holds wanted Last u []
+  of_seq : {u : List ℕ} → Holds wanted Seq u []
   of_other : {u : List ℕ} → Holds wanted Other u []
 
 -- The text o is an object whose first member is `_id`, and u is the same object on one line.
@@ -52,6 +53,41 @@ pub record IsPlainDocument (o u : List ℕ) : Type 0 where
 pub data IsDocument (wanted : Wanted) : List ℕ → List Piece → Type 0 where
   document : {o u v : List ℕ} → IsPlainDocument o u → is_log u ≡ false → covered wanted u ≡ Some v → IsDocument wanted o ((found.Document, v) ∷ [])
   log : {o u : List ℕ} → IsPlainDocument o u → is_log u ≡ true → IsDocument wanted o []
+
+-- The text o is an object whose first member is not `_id`, and u is the same object on one line. The object is an item of
+-- the list `docs` of an outermost object.
+pub record IsLateDocument (wanted : Wanted) (o u : List ℕ) : Type 0 where
+  pub before : List ℕ
+  pub key : List ℕ
+  pub behind : List ℕ
+  pub line : List ℕ
+  pub spaces : Spaces before
+  pub string : EndsString key
+  pub name : is_json (34 ∷ key) ≡ true
+  pub says : name_of wanted true true false 3 (34 ∷ key) ≡ Item
+  pub closed : Closed 1 behind line
+  pub object : o ≡ 123 ∷ (before ++ (34 ∷ (key ++ (behind ++ 125 ∷ []))))
+  pub text : u ≡ 123 ∷ (34 ∷ (key ++ (line ++ 125 ∷ [])))
+  pub json : is_json u ≡ true
+
+-- An item of the list `docs` of an outermost object, and the item's contents: the item itself if the item has a member
+-- `_id`, unless the item is a log.
+pub data IsDoc (wanted : Wanted) : List ℕ → List Piece → Type 0 where
+  first_id : {o : List ℕ} {ps : List Piece} → IsDocument wanted o ps → IsDoc wanted o ps
+  late_id : {o u v : List ℕ} → IsLateDocument wanted o u → has_id u ≡ true → covered wanted u ≡ Some v → IsDoc wanted o ((found.Document, v) ∷ [])
+  no_id : {o u : List ℕ} → IsLateDocument wanted o u → has_id u ≡ false → IsDoc wanted o []
+  no_names : (s : List ℕ) → Spaces s → IsDoc wanted (123 ∷ (s ++ 125 ∷ [])) []
+
+-- The items of the list `docs` of an outermost object, from an object to the closing bracket of the list.
+pub data AreDocs (wanted : Wanted) : List ℕ → List Piece → Type 0 where
+  last_doc : {o : List ℕ} (s : List ℕ) {ps : List Piece} → IsDoc wanted o ps → Spaces s → AreDocs wanted (o ++ (s ++ 93 ∷ [])) ps
+  doc : {o : List ℕ} (s s' : List ℕ) {more : List ℕ} {ps qs : List Piece} → IsDoc wanted o ps → Spaces s → Spaces s' → AreDocs wanted more qs
+      → AreDocs wanted (o ++ (s ++ 44 ∷ (s' ++ more))) (ps ++ qs)
+
+-- The list `docs` of an outermost object.
+pub data IsDocs (wanted : Wanted) : List ℕ → List Piece → Type 0 where
+  no_docs : (s : List ℕ) → Spaces s → IsDocs wanted (91 ∷ (s ++ 93 ∷ [])) []
+  with_docs : (s : List ℕ) {t : List ℕ} {ps : List Piece} → Spaces s → AreDocs wanted t ps → IsDocs wanted (91 ∷ (s ++ t)) ps
 
 -- ---- searched lists and objects
 
@@ -75,6 +111,11 @@ mutual
     list : {f : Bool} {d : ℕ} {k : List ℕ} (s s' s'' s''' : List ℕ) {l more : List ℕ} {ps qs : List Piece} → IsNamed wanted f d k ListName → Spaces s → Spaces s'
         → IsList wanted d l ps → Spaces s'' → Spaces s''' → IsMembers wanted false d more qs
         → IsMembers wanted f d (34 ∷ (k ++ (s ++ 58 ∷ (s' ++ (l ++ (s'' ++ 44 ∷ (s''' ++ more))))))) (ps ++ qs)
+    last_docs : {f : Bool} {k : List ℕ} (s s' s'' : List ℕ) {l : List ℕ} {ps : List Piece} → IsNamed wanted f 1 k Docs → Spaces s → Spaces s'
+        → IsDocs wanted l ps → Spaces s'' → IsMembers wanted f 1 (34 ∷ (k ++ (s ++ 58 ∷ (s' ++ (l ++ (s'' ++ 125 ∷ [])))))) ps
+    docs : {f : Bool} {k : List ℕ} (s s' s'' s''' : List ℕ) {l more : List ℕ} {ps qs : List Piece} → IsNamed wanted f 1 k Docs → Spaces s → Spaces s'
+        → IsDocs wanted l ps → Spaces s'' → Spaces s''' → IsMembers wanted false 1 more qs
+        → IsMembers wanted f 1 (34 ∷ (k ++ (s ++ 58 ∷ (s' ++ (l ++ (s'' ++ 44 ∷ (s''' ++ more))))))) (ps ++ qs)
 
   pub data IsList (wanted : Wanted) : ℕ → List ℕ → List Piece → Type 0 where
     no_items : {d : ℕ} (s : List ℕ) → d < 8 → Spaces s → IsList wanted d (91 ∷ (s ++ 93 ∷ [])) []

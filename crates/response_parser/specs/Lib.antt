@@ -26,9 +26,10 @@ pub use Lines.{is_digit, is_lower, is_rev_byte}
 pub use Steps.{is_refused}
 unfoldable pub use Steps.{step}
 pub use Reading.{Piece, after, end_of, given, has_rest, is_piece, last_end, piece_of, pieces, stops, whole}
-pub use Grammar.{AreAnswers, Holds, IsAnswered, IsDocument, IsItems, IsList, IsMembers, IsNamed, IsObject, IsPlainDocument, IsValue, document, item}
+pub use Grammar.{AreAnswers, AreDocs, Holds, IsAnswered, IsDoc, IsDocs, IsDocument, IsLateDocument, IsItems, IsList, IsMembers, IsNamed, IsObject, IsPlainDocument, IsValue, document, item}
 pub use Grammar.{itself, last_item, last_list, last_value, list_first, log, no_items, no_members, no_more, no_object, object_first, of_last, of_list}
-pub use Grammar.{of_object, of_other, of_passed, value, with_items, with_members}
+pub use Grammar.{of_object, of_other, of_passed, of_seq, value, with_items, with_members}
+pub use Grammar.{doc, docs, first_id, last_doc, last_docs, late_id, no_docs, no_id, no_names, with_docs}
 pub use ChangeGrammar.{AreChanges, AreRevs, IsChangeScript, change, empty, is_word_byte, last_rev, none, object, rev, word, words}
 pub use Stored.{front_length_of, front_of, state_of}
 pub use declared.place.Found.{Found}

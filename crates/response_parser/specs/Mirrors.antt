@@ -47,14 +47,17 @@ pub data Like (a b : State) : Type 0 where
 -- value whether the value is a document.
 abbrev pub is_document : Name → Bool
 is_document names.Plain = true
+is_document names.Item = false
 is_document names.Document = true
 is_document names.Id = false
 is_document names.List = false
+is_document names.Docs = false
 is_document names.Changes = false
 is_document names.Rev = false
 is_document names.Missing = false
 is_document names.Passed = false
 is_document names.Last = false
+is_document names.Seq = false
 is_document names.Error = false
 is_document names.Reason = false
 is_document names.Other = false

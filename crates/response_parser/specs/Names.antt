@@ -4,7 +4,7 @@ use Rattle.std.specs.Str.{bytes_eq}
 use Rattle.response_parser.specs.declared.place.Wanted.{Wanted}
 use Rattle.response_parser.specs.declared.place.Wanted.TheVariants.{Documents, Enveloped, Bodies, Unfolded, Leaves, Changes as InChanges}
 use Rattle.response_parser.specs.declared.place.Name.{Name}
-use Rattle.response_parser.specs.declared.place.Name.TheVariants.{Plain, Document, Id, List as ListName, Changes, Rev, Missing, Passed, Last, Error, Reason, Other, Foreign}
+use Rattle.response_parser.specs.declared.place.Name.TheVariants.{Plain, Item, Document, Id, List as ListName, Docs, Changes, Rev, Missing, Passed, Last, Seq, Error, Reason, Other, Foreign}
 use Rattle.response_parser.specs.declared.place.Refusal.{Refusal}
 use Rattle.response_parser.specs.declared.place.Refusal.TheVariants.{NoAnswer, CouchError}
 use Rattle.response_parser.specs.declared.place.Found.{Found}
@@ -12,15 +12,28 @@ use Rattle.response_parser.specs.declared.place.Found.TheVariants as found
 
 -- ---- names with quotation marks
 
+-- What the name `_id` means if the parser extracts documents from a response. An `_id` that is not the first name
+-- belongs to a document that the parser skips, or rejects for a strict request.
+abbrev pub id_name : Bool → Bool → Name
+id_name strict first = cond first Plain (cond strict Foreign Passed)
+
+-- What the name t of an outermost object's member means if the member belongs to a PouchDB dump.
+abbrev pub outermost_name : Bool → List ℕ → Name
+outermost_name first t =
+    cond (bytes_eq t (codes "\"db_info\"")) Last (cond (first && bytes_eq t (codes "\"seq\"")) Seq Other)
+
 -- What the name t of a JSON member means if the parser extracts documents from a response. The flag `first` says
--- whether the name t is the first name of its object.
-abbrev pub document_name : Bool → List ℕ → Name
-document_name first t =
-    cond (first && bytes_eq t (codes "\"_id\"")) Plain
+-- whether the name t is the first name of its object. The flag `item` says whether the object is an item of the outermost
+-- object's list `docs`, and `outermost` whether the object is an outermost object.
+abbrev pub document_name : Bool → Bool → Bool → Bool → List ℕ → Name
+document_name strict first item outermost t =
+    cond (item && first) (cond (bytes_eq t (codes "\"_id\"")) Plain Item)
     (cond (bytes_eq t (codes "\"ok\"") || bytes_eq t (codes "\"doc\"")) Document
-    (cond (bytes_eq t (codes "\"results\"") || bytes_eq t (codes "\"rows\"") || bytes_eq t (codes "\"docs\"")) ListName
+    (cond (bytes_eq t (codes "\"_id\"")) (id_name strict first)
+    (cond (bytes_eq t (codes "\"docs\"")) (cond outermost Docs ListName)
+    (cond (bytes_eq t (codes "\"results\"") || bytes_eq t (codes "\"rows\"")) ListName
     (cond (bytes_eq t (codes "\"missing\"") || bytes_eq t (codes "\"error\"")) Passed
-    (cond (bytes_eq t (codes "\"last_seq\"")) Last Other))))
+    (cond (bytes_eq t (codes "\"last_seq\"")) Last (cond outermost (outermost_name first t) Other)))))))
 
 -- What the name t of a JSON member means if the parser extracts leaves (document ids and revisions) from a response. If
 -- leaves are requested, only the name `rev` has a meaning in a document's list of revisions. If leaves are requested,
@@ -39,48 +52,62 @@ leaf_name inner entry t =
 abbrev pub change_name : Bool → List ℕ → Name
 change_name first t = cond (first && bytes_eq t (codes "\"_id\"")) Plain Foreign
 
-abbrev pub wanted_name : Wanted → Bool → Bool → Bool → List ℕ → Name
-wanted_name Documents first inner entry t = document_name first t
-wanted_name Enveloped first inner entry t = document_name first t
-wanted_name Bodies first inner entry t = document_name first t
-wanted_name Unfolded first inner entry t = document_name first t
-wanted_name Leaves first inner entry t = leaf_name inner entry t
-wanted_name InChanges first inner entry t = change_name first t
+abbrev pub wanted_name : Wanted → Bool → Bool → Bool → Bool → List ℕ → Name
+wanted_name Documents first inner entry outermost t = document_name false first inner outermost t
+wanted_name Enveloped first inner entry outermost t = document_name false first inner outermost t
+wanted_name Bodies first inner entry outermost t = document_name true first inner outermost t
+wanted_name Unfolded first inner entry outermost t = document_name true first inner outermost t
+wanted_name Leaves first inner entry outermost t = leaf_name inner entry t
+wanted_name InChanges first inner entry outermost t = change_name first t
 
 -- The meaning of a name t for any request. For any request, the names `error` and `reason` have a meaning in an
 -- outermost object.
 unfoldable pub name_of : Wanted → Bool → Bool → Bool → ℕ → List ℕ → Name
 name_of wanted first inner diff depth t =
     cond (depth == 1 && bytes_eq t (codes "\"error\"")) Error
-    (cond (depth == 1 && bytes_eq t (codes "\"reason\"")) Reason (wanted_name wanted first inner (diff && depth == 2) t))
+    (cond (depth == 1 && bytes_eq t (codes "\"reason\"")) Reason (wanted_name wanted first inner (diff && depth == 2) (depth == 1) t))
 
 -- ---- of a name
 
 abbrev pub is_plain : Name → Bool
 is_plain Plain = true
+is_plain Item = true
 is_plain Document = false
 is_plain Id = false
 is_plain ListName = false
+is_plain Docs = false
 is_plain Changes = false
 is_plain Rev = false
 is_plain Missing = false
 is_plain Passed = false
 is_plain Last = false
+is_plain Seq = false
 is_plain Error = false
 is_plain Reason = false
 is_plain Other = false
 is_plain Foreign = false
 
+abbrev pub is_item : Name → Bool
+is_item Item = true
+is_item name = false
+
+abbrev pub is_seq : Name → Bool
+is_seq Seq = true
+is_seq name = false
+
 abbrev pub is_known : Name → Bool
 is_known Plain = true
+is_known Item = true
 is_known Document = true
 is_known Id = false
 is_known ListName = true
+is_known Docs = true
 is_known Changes = true
 is_known Rev = true
 is_known Missing = true
 is_known Passed = true
 is_known Last = true
+is_known Seq = true
 is_known Error = true
 is_known Reason = false
 is_known Other = false
@@ -88,44 +115,54 @@ is_known Foreign = true
 
 abbrev pub is_id : Name → Bool
 is_id Plain = false
+is_id Item = false
 is_id Document = false
 is_id Id = true
 is_id ListName = false
+is_id Docs = false
 is_id Changes = false
 is_id Rev = false
 is_id Missing = false
 is_id Passed = false
 is_id Last = false
+is_id Seq = false
 is_id Error = false
 is_id Reason = false
 is_id Other = false
 is_id Foreign = false
 
-abbrev pub is_changes : Name → Bool
-is_changes Plain = false
-is_changes Document = false
-is_changes Id = false
-is_changes ListName = false
-is_changes Changes = true
-is_changes Rev = false
-is_changes Missing = false
-is_changes Passed = false
-is_changes Last = false
-is_changes Error = false
-is_changes Reason = false
-is_changes Other = false
-is_changes Foreign = false
+-- Whether the value of a name is a document's list of revisions, or the list `docs` of an outermost object.
+abbrev pub is_inner : Name → Bool
+is_inner Plain = false
+is_inner Item = false
+is_inner Document = false
+is_inner Id = false
+is_inner ListName = false
+is_inner Docs = true
+is_inner Changes = true
+is_inner Rev = false
+is_inner Missing = false
+is_inner Passed = false
+is_inner Last = false
+is_inner Seq = false
+is_inner Error = false
+is_inner Reason = false
+is_inner Other = false
+is_inner Foreign = false
 
 abbrev pub is_error : Name → Bool
 is_error Plain = false
+is_error Item = false
 is_error Document = false
 is_error Id = false
 is_error ListName = false
+is_error Docs = false
 is_error Changes = false
 is_error Rev = false
 is_error Missing = false
 is_error Passed = false
 is_error Last = false
+is_error Seq = false
 is_error Error = true
 is_error Reason = false
 is_error Other = false
@@ -135,14 +172,17 @@ is_error Foreign = false
 -- text of a document begins with a brace, and the text of an id or a revision begins with a quotation mark.
 abbrev pub found_of : Name → ℕ → Found
 found_of Plain first = found.Nothing
+found_of Item first = found.Nothing
 found_of Document first = cond (first == 123) found.Document found.Nothing
 found_of Id first = cond (first == 34) found.Id found.Nothing
 found_of ListName first = found.Nothing
+found_of Docs first = found.Nothing
 found_of Changes first = found.Nothing
 found_of Rev first = cond (first == 34) found.Rev found.Nothing
 found_of Missing first = found.Nothing
 found_of Passed first = found.Nothing
 found_of Last first = found.Nothing
+found_of Seq first = found.Nothing
 found_of Error first = found.Nothing
 found_of Reason first = found.Nothing
 found_of Other first = found.Nothing
@@ -151,14 +191,17 @@ found_of Foreign first = found.Nothing
 -- Whether the parser counts the value of a name as a skipped document. The argument `first` is the value's first byte.
 abbrev pub passes : Name → ℕ → Bool
 passes Plain first = false
+passes Item first = false
 passes Document first = cond (first == 123) false true
 passes Id first = false
 passes ListName first = false
+passes Docs first = false
 passes Changes first = false
 passes Rev first = false
 passes Missing first = false
 passes Passed first = true
 passes Last first = false
+passes Seq first = false
 passes Error first = true
 passes Reason first = false
 passes Other first = false
@@ -169,14 +212,17 @@ passes Foreign first = false
 -- before in the response, and the parser entered no list or object in between.
 abbrev pub refusal_of : Name → ℕ → Bool → Option Refusal
 refusal_of Plain first failed = None
+refusal_of Item first failed = None
 refusal_of Document first failed = None
 refusal_of Id first failed = cond (first == 34) None (Some NoAnswer)
 refusal_of ListName first failed = None
+refusal_of Docs first failed = None
 refusal_of Changes first failed = None
 refusal_of Rev first failed = cond (first == 34) None (Some NoAnswer)
 refusal_of Missing first failed = None
 refusal_of Passed first failed = None
 refusal_of Last first failed = None
+refusal_of Seq first failed = None
 refusal_of Error first failed = None
 refusal_of Reason first failed = cond (first == 34 && failed) (Some CouchError) None
 refusal_of Other first failed = None

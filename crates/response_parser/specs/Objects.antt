@@ -1,10 +1,10 @@
 -- Defines how one byte outside of names and values changes the parser's state, as specified in docs/PROFILE.md,
 -- "CouchDB's answers".
-use Rattle.std.specs.Prelude.{ℕ, ◌+◌, ◌-◌, ◌&&◌, ◌||◌, ◌==◌, nat_lt, [], ◌∷◌, Bool, true, false, not, cond, codes}
+use Rattle.std.specs.Prelude.{ℕ, ◌+◌, ◌-◌, ◌&&◌, ◌||◌, ◌==◌, nat_lt, [], ◌∷◌, Bool, true, false, not, cond}
 use Rattle.doc_envelope.specs.Texts.{is_space, is_json}
 use Rattle.response_parser.specs.Wanted.{wants_leaves, wants_changes, is_strict}
 use Rattle.response_parser.specs.State.{State, more, at, refused, added}
-use Rattle.response_parser.specs.Names.{name_of, is_plain, is_known, is_id, is_changes}
+use Rattle.response_parser.specs.Names.{name_of, is_plain, is_known, is_id, is_inner}
 use Rattle.response_parser.specs.Signs.{sign_begun}
 use Rattle.response_parser.specs.Lines.{is_lower, text_begun}
 use Rattle.response_parser.specs.declared.place.Place.{Place}
@@ -121,13 +121,13 @@ abbrev pub after_member : State → ℕ → State
 after_member s b =
     cond (is_space b) s (cond (b == 44) (at NextMember s) (cond (b == 125) (object_closed s) (refused NotJson s)))
 
--- The parser's state after it has read the first name of a document, which is `_id`. After the parser has read the
--- first name of a document, the stored text is the opening brace and the name `_id` in quotation marks.
-abbrev pub plain_begun : State → State
-plain_begun s = record s { place = Value names.Plain; text = codes "{\"_id\""; nesting = 1 }
+-- The parser's state in an object that is read as one value, after the object's first name. The object's text so far is
+-- the brace and the name.
+abbrev pub plain_begun : Name → State → State
+plain_begun name s = record s { place = Value name; text = 123 ∷ s.text; nesting = 1 }
 
 abbrev pub key_ended : Name → State → State
-key_ended name s = cond (is_plain name) (plain_begun s) (at (Colon name) s)
+key_ended name s = cond (is_plain name) (plain_begun name s) (at (Colon name) s)
 
 abbrev pub name_in : State → Name
 name_in s = name_of s.wanted s.first s.inner s.diff s.depth s.text
@@ -145,14 +145,17 @@ in_key_escape s b = at Key (added b s)
 
 abbrev pub value_place : Name → Place
 value_place names.Plain = Value names.Plain
+value_place names.Item = Value names.Item
 value_place names.Document = Value names.Document
 value_place names.Id = Value names.Id
 value_place names.List = ListPlace
+value_place names.Docs = ListPlace
 value_place names.Changes = ListPlace
 value_place names.Rev = Value names.Rev
 value_place names.Missing = Revs RevList
 value_place names.Passed = Value names.Passed
 value_place names.Last = Value names.Last
+value_place names.Seq = Value names.Seq
 value_place names.Error = Value names.Error
 value_place names.Reason = Value names.Reason
 value_place names.Other = Value names.Other
@@ -160,20 +163,23 @@ value_place names.Foreign = Value names.Foreign
 
 abbrev pub value_begun : Name → State → State
 value_begun name s =
-    record s { place = value_place name; known = s.known || is_known name; named = s.named || is_id name; inner = s.inner || is_changes name; text = []; nesting = 0 }
+    record s { place = value_place name; known = s.known || is_known name; named = s.named || is_id name; inner = s.inner || is_inner name; text = []; nesting = 0 }
 
 -- The parser's state after a name and its colon. In a feed row, the revisions of a document must come after the
 -- document's id.
 abbrev pub begun_as : Name → State → State
 begun_as names.Plain s = value_begun names.Plain s
+begun_as names.Item s = value_begun names.Item s
 begun_as names.Document s = value_begun names.Document s
 begun_as names.Id s = value_begun names.Id s
 begun_as names.List s = value_begun names.List s
+begun_as names.Docs s = value_begun names.Docs s
 begun_as names.Changes s = cond s.named (value_begun names.Changes s) (refused NoAnswer s)
 begun_as names.Rev s = value_begun names.Rev s
 begun_as names.Missing s = value_begun names.Missing s
 begun_as names.Passed s = value_begun names.Passed s
 begun_as names.Last s = value_begun names.Last s
+begun_as names.Seq s = value_begun names.Seq s
 begun_as names.Error s = value_begun names.Error s
 begun_as names.Reason s = value_begun names.Reason s
 begun_as names.Other s = value_begun names.Other s

@@ -21,7 +21,7 @@ pub record State : Type 0 where
   pub named : Bool
   -- Whether the parser's last name is the first name of its object.
   pub first : Bool
-  -- Whether the innermost open list is a document's list of revisions.
+  -- Whether the innermost open list is a document's list of revisions, or the list `docs` of an outermost object.
   pub inner : Bool
   -- Whether the current response is a response of `_revs_diff`.
   pub diff : Bool

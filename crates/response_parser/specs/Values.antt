@@ -1,10 +1,10 @@
 -- Defines how one byte of a value changes the parser's state, as specified in docs/PROFILE.md, "CouchDB's answers".
-use Rattle.std.specs.Prelude.{ℕ, ◌+◌, ◌-◌, ◌&&◌, ◌||◌, ◌==◌, nat_lt, length, slice_index, List, [], ◌∷◌, ◌++◌, true, not, cond, Option, Some, None}
+use Rattle.std.specs.Prelude.{ℕ, ◌+◌, ◌-◌, ◌&&◌, ◌||◌, ◌==◌, nat_lt, length, slice_index, List, [], ◌∷◌, ◌++◌, true, false, not, cond, Option, Some, None}
 use Rattle.doc_envelope.specs.Texts.{is_space, is_json}
-use Rattle.doc_envelope.specs.Names.{is_log}
+use Rattle.doc_envelope.specs.Names.{has_id, is_log}
 use Rattle.response_parser.specs.Wanted.{wants_documents, covered}
 use Rattle.response_parser.specs.State.{State, more, at, refused, added}
-use Rattle.response_parser.specs.Names.{is_plain, is_error, found_of, passes, refusal_of}
+use Rattle.response_parser.specs.Names.{is_plain, is_item, is_seq, is_error, found_of, passes, refusal_of}
 use Rattle.response_parser.specs.Objects.{object_closed, entry_opened, begun_as, moved_between}
 use Rattle.response_parser.specs.declared.place.Place.{Place}
 use Rattle.response_parser.specs.declared.place.Place.TheVariants.{Start, Begin, Sign, Between, Item, NextItem, AfterItem, Member, NextMember, AfterMember, Key, KeyEscape, Colon, Ahead, List as ListPlace, Value, Quoted, Escaped, Revs, Line, Refused}
@@ -36,8 +36,13 @@ passed_by name first s = record s { passed = cond (passes name first) (more s.pa
 abbrev pub error_kept : Name → ℕ → State → State
 error_kept name first s = cond (is_error name && first == 34) (record s { failed = true; error = s.text }) s
 
+-- The parser's state after the value of a name. If further members follow a member `seq`, the object is no object of a
+-- PouchDB dump, and `seq` does not make the object known.
+abbrev pub seq_read : Name → State → State
+seq_read name s = record s { known = cond (is_seq name) false s.known }
+
 abbrev pub judged : Name → ℕ → State → State
-judged name first s = told (found_of name first) (error_kept name first (passed_by name first s))
+judged name first s = told (found_of name first) (error_kept name first (passed_by name first (seq_read name s)))
 
 abbrev pub value_passed : State → ℕ → State
 value_passed s b = cond (b == 44) (at NextMember s) (object_closed s)
@@ -58,6 +63,18 @@ plain_found s = cond (wants_documents s.wanted && not (is_log s.text)) (document
 abbrev pub plain_ended : State → State
 plain_ended s = cond (is_json s.text) (plain_found (object_closed (record s { known = true }))) (refused NotJson s)
 
+-- The parser's state after the closing brace of an item of `docs`. The item is a document if it has a member `_id`.
+abbrev pub item_found : State → State
+item_found s =
+    cond (has_id s.text) (document_found (object_closed (record s { known = true }))) (object_closed (record s { known = false }))
+
+abbrev pub item_ended : State → State
+item_ended s = cond (is_json s.text) (item_found s) (refused NotJson s)
+
+-- The parser's state after the closing brace of an object that is read as one value.
+abbrev pub object_ended : Name → State → State
+object_ended name s = cond (is_item name) (item_ended s) (plain_ended s)
+
 -- ---- bytes of a value
 
 -- The parser's state after an opening bracket in a value. The parser rejects a value in which more than 128 brackets
@@ -72,7 +89,7 @@ less_deep s b = record s { nesting = s.nesting - 1; text = s.text ++ b ∷ [] }
 abbrev pub shallower : Name → State → ℕ → State
 shallower name s b =
     cond (s.nesting == 0) (refused NotJson s)
-    (cond (s.nesting == 1 && is_plain name) (plain_ended (less_deep s b)) (less_deep s b))
+    (cond (s.nesting == 1 && is_plain name) (object_ended name (less_deep s b)) (less_deep s b))
 
 -- The parser's state after white space in a value. The parser drops white space before a value, and replaces white
 -- space inside a value by a blank.

@@ -2,7 +2,7 @@
 ghost use Rattle.std.specs.Prelude.{◌≡◌, OnOk};
 ghost use Rattle.response_parser.specs.Stored.{state_of};
 ghost use Rattle.response_parser.specs.State.{added};
-ghost use Rattle.response_parser.specs.Names.{is_known, is_plain, is_id, is_changes};
+ghost use Rattle.response_parser.specs.Names.{is_known, is_plain, is_id, is_inner};
 ghost use Rattle.response_parser.specs.Objects.{key_begun, at_member, at_next_member, after_member, name_in, named, plain_begun, in_key, in_key_escape, value_place, value_begun, begun_as, is_ahead, at_colon, at_list, moved_between};
 ghost use Rattle.response_parser.specs.Values.{at_ahead, begun_in};
 
@@ -125,7 +125,7 @@ impl Reading {
         }
         let name = self.name();
         if is_plain(name) {
-            return self.begin_plain();
+            return self.begin_plain(name);
         }
         self.stand_at(Place::Colon(name));
         Ok(())
@@ -145,13 +145,12 @@ impl Reading {
         )
     }
 
-    /// Starts the text of a document whose first member is `_id`.
-    fn begin_plain(&mut self) -> Result<(), AllocError>
-        ensures { OnOk result (state_of self.new ≡ plain_begun (state_of self.old)) }
+    /// Starts the text of an object that is read as one value, after the object's first name.
+    fn begin_plain(&mut self, name: Name) -> Result<(), AllocError>
+        ensures { OnOk result (state_of self.new ≡ plain_begun name (state_of self.old)) }
     {
-        self.text.clear();
-        self.text.extend_from_slice(b"{\"_id\"")?;
-        self.place = Place::Value(Name::Plain);
+        self.text.insert(0, b'{')?;
+        self.place = Place::Value(name);
         self.nesting = 1;
         Ok(())
     }
@@ -230,7 +229,7 @@ impl Reading {
         self.place = value_place(name);
         self.known = self.known || is_known(name);
         self.named = self.named || is_id(name);
-        self.inner = self.inner || is_changes(name);
+        self.inner = self.inner || is_inner(name);
         self.text.clear();
         self.nesting = 0;
     }
@@ -255,7 +254,7 @@ fn value_place(name: Name) -> Place
     ensures { result ≡ value_place name }
 {
     match name {
-        Name::List | Name::Changes => Place::List,
+        Name::List | Name::Docs | Name::Changes => Place::List,
         Name::Missing => Place::Revs(RevPlace::List),
         _ => Place::Value(name),
     }
@@ -268,11 +267,11 @@ fn is_known(name: Name) -> bool
     !matches!(name, Name::Other | Name::Id | Name::Reason)
 }
 
-/// Whether a member's name means that the member's object is a document.
+/// Whether an object with this first name is read as one value.
 pub(crate) fn is_plain(name: Name) -> bool
     ensures { result ≡ is_plain name }
 {
-    matches!(name, Name::Plain)
+    matches!(name, Name::Plain | Name::Item)
 }
 
 /// Whether a member's name means that its value is a document id.
@@ -282,9 +281,10 @@ fn is_id(name: Name) -> bool
     matches!(name, Name::Id)
 }
 
-/// Whether a member's name means that its value is a list of revisions.
-fn is_changes(name: Name) -> bool
-    ensures { result ≡ is_changes name }
+/// Whether a member's name means that its value is a document's list of revisions, or the outermost object's list
+/// `docs`.
+fn is_inner(name: Name) -> bool
+    ensures { result ≡ is_inner name }
 {
-    matches!(name, Name::Changes)
+    matches!(name, Name::Changes | Name::Docs)
 }

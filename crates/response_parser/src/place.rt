@@ -26,12 +26,17 @@ pub enum Wanted {
 pub enum Name {
     /// The object that has the member is a document.
     Plain,
+    /// The object that has the member is an item of the outermost object's member `docs`, and a document if the object
+    /// has a member `_id`.
+    Item,
     /// A document.
     Document,
     /// A document id.
     Id,
     /// The value is a list of objects, which may be documents or leaves.
     List,
+    /// The value is the list `docs` of an outermost object.
+    Docs,
     /// The value is a list of revisions of a document, whose id precedes the list in the same object.
     Changes,
     /// The value is a revision in a document's list of revisions.
@@ -41,8 +46,11 @@ pub enum Name {
     /// The response has this value instead of a document, for example an error. The parser skips the value of the
     /// member.
     Passed,
-    /// The member `last_seq`, which ends a changes feed.
+    /// A member of an object without documents, which is not skipped: `last_seq` ends a changes feed, and `db_info`
+    /// belongs to the first object of a PouchDB dump.
     Last,
+    /// The first member `seq` of an outermost object. In a PouchDB dump, an object may have only this member.
+    Seq,
     /// The member `error` of a CouchDB error.
     Error,
     /// The member `reason` of a CouchDB error.

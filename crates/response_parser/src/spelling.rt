@@ -3,7 +3,7 @@ ghost use Rattle.std.specs.Prelude.{◌≡◌, ◌||◌};
 ghost use Rattle.std.specs.Str.{bytes_eq};
 ghost use Rattle.doc_envelope.specs.Texts.{is_space};
 ghost use Rattle.response_parser.specs.State.{more};
-ghost use Rattle.response_parser.specs.Names.{name_of, wanted_name, document_name, leaf_name, change_name};
+ghost use Rattle.response_parser.specs.Names.{name_of, wanted_name, document_name, id_name, outermost_name, leaf_name, change_name};
 
 use crate::place::{Name, Wanted};
 
@@ -41,8 +41,8 @@ fn is_either(text: &[u8], one: &[u8], other: &[u8]) -> bool
 
 /// Returns what a member's name, which is given with its quotation marks, means for the member's value. `first` says
 /// whether the member is the first member of its object. `inner` says whether the member is in a document's list of
-/// revisions. `diff` says whether the input is a response of `_revs_diff`. `depth` is the number of lists and objects
-/// that are open.
+/// revisions, or in an item of the outermost object's list `docs`. `diff` says whether the input is a response of
+/// `_revs_diff`. `depth` is the number of lists and objects that are open.
 #[tactic(auto, unfolding(crate::specs::Names::name_of))]
 pub(crate) fn name_of(
     wanted: Wanted,
@@ -60,34 +60,84 @@ pub(crate) fn name_of(
     if depth == 1 && is(text, b"\"reason\"") {
         return Name::Reason;
     }
-    wanted_name(wanted, first, inner, diff && depth == 2, text)
+    wanted_name(wanted, first, inner, diff && depth == 2, depth == 1, text)
 }
 
-/// Returns the meaning of a member's name in an object of a document's list of revisions.
-fn wanted_name(wanted: Wanted, first: bool, inner: bool, entry: bool, text: &[u8]) -> Name
-    ensures { result ≡ wanted_name wanted first inner entry text.now }
+/// Returns the meaning of a member's name, depending on what the caller requested.
+fn wanted_name(
+    wanted: Wanted,
+    first: bool,
+    inner: bool,
+    entry: bool,
+    outermost: bool,
+    text: &[u8],
+) -> Name
+    ensures { result ≡ wanted_name wanted first inner entry outermost text.now }
 {
     match wanted {
         Wanted::Leaves => name_of_leaves(inner, entry, text),
         Wanted::Changes => name_of_changes(first, text),
-        _ => name_of_documents(first, text),
+        Wanted::Documents | Wanted::Enveloped => {
+            name_of_documents(false, first, inner, outermost, text)
+        }
+        Wanted::Bodies | Wanted::Unfolded => name_of_documents(true, first, inner, outermost, text),
     }
 }
 
-/// Returns the meaning of a member's name if the caller requested documents.
-fn name_of_documents(first: bool, text: &[u8]) -> Name
-    ensures { result ≡ document_name first text.now }
+/// Returns the meaning of a member's name if the caller requested documents. `item` says whether the member is in an
+/// item of the outermost object's list `docs`, and `outermost` whether the member is in an outermost object.
+#[inline(always)]
+fn name_of_documents(strict: bool, first: bool, item: bool, outermost: bool, text: &[u8]) -> Name
+    ensures { result ≡ document_name strict first item outermost text.now }
 {
-    if first && is(text, b"\"_id\"") {
-        Name::Plain
+    if item && first {
+        if is(text, b"\"_id\"") {
+            Name::Plain
+        } else {
+            Name::Item
+        }
     } else if is_either(text, b"\"ok\"", b"\"doc\"") {
         Name::Document
-    } else if is_either(text, b"\"results\"", b"\"rows\"") || is(text, b"\"docs\"") {
+    } else if is(text, b"\"_id\"") {
+        name_of_id(strict, first)
+    } else if is(text, b"\"docs\"") {
+        if outermost { Name::Docs } else { Name::List }
+    } else if is_either(text, b"\"results\"", b"\"rows\"") {
         Name::List
     } else if is_either(text, b"\"missing\"", b"\"error\"") {
         Name::Passed
     } else if is(text, b"\"last_seq\"") {
         Name::Last
+    } else if outermost {
+        name_of_outermost(first, text)
+    } else {
+        Name::Other
+    }
+}
+
+/// Returns the meaning of a member `_id` if the caller requested documents. A document that does not begin with `_id` is
+/// skipped, or rejected for a strict request.
+#[inline(always)]
+fn name_of_id(strict: bool, first: bool) -> Name
+    ensures { result ≡ id_name strict first }
+{
+    if first {
+        Name::Plain
+    } else if strict {
+        Name::Foreign
+    } else {
+        Name::Passed
+    }
+}
+
+/// Returns the meaning of a name of an outermost object, if the name belongs to a PouchDB dump.
+fn name_of_outermost(first: bool, text: &[u8]) -> Name
+    ensures { result ≡ outermost_name first text.now }
+{
+    if is(text, b"\"db_info\"") {
+        Name::Last
+    } else if first && is(text, b"\"seq\"") {
+        Name::Seq
     } else {
         Name::Other
     }

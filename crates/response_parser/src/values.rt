@@ -2,8 +2,8 @@
 ghost use Rattle.std.specs.Prelude.{◌≡◌, IfOk, OnOk, slice_index};
 ghost use Rattle.doc_envelope.specs.Texts.{is_json};
 ghost use Rattle.response_parser.specs.Stored.{state_of};
-ghost use Rattle.response_parser.specs.Names.{found_of, passes, refusal_of, is_error};
-ghost use Rattle.response_parser.specs.Values.{error_kept, told, judged, value_passed, value_ended, deeper, shallower, spaced, plain_ended, in_value, in_quoted, in_escaped};
+ghost use Rattle.response_parser.specs.Names.{found_of, passes, refusal_of, is_error, is_item, is_seq};
+ghost use Rattle.response_parser.specs.Values.{error_kept, told, judged, value_passed, value_ended, deeper, shallower, spaced, plain_ended, item_ended, object_ended, in_value, in_quoted, in_escaped};
 
 use crate::members::is_plain;
 use crate::place::{Found, Name, Place, Refusal, Wanted};
@@ -11,7 +11,7 @@ use crate::reading::Reading;
 use crate::spelling::{is_space, more};
 use crate::strings::is_plain_string;
 use crate::wanted::wants_documents;
-use doc_envelope::{is_log, is_printed_envelope};
+use doc_envelope::{has_id, is_log, is_printed_envelope};
 use std::alloc::AllocError;
 
 /// The maximum number of brackets of a value that are open at the same time.
@@ -89,8 +89,36 @@ impl Reading {
         self.nesting -= 1;
         self.add(byte)?;
         if ends {
-            return self.end_plain();
+            return self.end_object(name);
         }
+        Ok(())
+    }
+
+    /// Ends an object that is read as one value, at the object's closing brace.
+    fn end_object(&mut self, name: Name) -> Result<(), AllocError>
+        ensures { OnOk result (state_of self.new ≡ object_ended name (state_of self.old)) }
+    {
+        if is_item(name) {
+            return self.end_item();
+        }
+        self.end_plain()
+    }
+
+    /// Ends an item of the outermost object's list `docs`. The item is a document if it has a member `_id`.
+    fn end_item(&mut self) -> Result<(), AllocError>
+        ensures { OnOk result (state_of self.new ≡ item_ended (state_of self.old)) }
+    {
+        if !self.is_json()? {
+            self.refuse(Refusal::NotJson);
+            return Ok(());
+        }
+        if has_id(self.text.as_slice()) {
+            self.known = true;
+            self.close_object();
+            return self.find_document();
+        }
+        self.known = false;
+        self.close_object();
         Ok(())
     }
 
@@ -142,6 +170,9 @@ impl Reading {
     fn judge(&mut self, name: Name, first: u8) -> Result<(), AllocError>
         ensures { OnOk result (state_of self.new ≡ judged name first (state_of self.old)) }
     {
+        if is_seq(name) {
+            self.known = false;
+        }
         if passes(name, first) {
             self.passed = more(self.passed);
         }
@@ -239,6 +270,20 @@ fn refusal_of(name: Name, first: u8, failed: bool) -> Option<Refusal>
         Name::Reason if first == b'"' && failed => Some(Refusal::CouchError),
         _ => None,
     }
+}
+
+/// Whether an object with this first name is an item of the outermost object's list `docs`.
+fn is_item(name: Name) -> bool
+    ensures { result ≡ is_item name }
+{
+    matches!(name, Name::Item)
+}
+
+/// Whether a member's name means the `seq` of a PouchDB dump.
+fn is_seq(name: Name) -> bool
+    ensures { result ≡ is_seq name }
+{
+    matches!(name, Name::Seq)
 }
 
 /// Whether a member's name means the `error` or the `reason` of a CouchDB error.

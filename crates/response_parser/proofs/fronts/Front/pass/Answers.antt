@@ -1,5 +1,5 @@
-use Rattle.proof_prelude.proofs.{◌≡◌, ◌+◌, ◌≤◌, ℕ, Bool, true, false, min, take, length, refl, sym, ap, ◌∙◌, length-take-le, arith}
-use Rattle.response_parser.specs.{front_length_of, front_of, state_of}
+use Rattle.proof_prelude.proofs.{◌≡◌, ◌+◌, ◌≤◌, min, take, length, sym, ap, ◌∙◌, length-take-le, arith}
+use Rattle.response_parser.specs.{state_of}
 use Rattle.response_parser.specs.State.{State}
 use Rattle.response_parser.specs.Runs.{more_by}
 use Rattle.response_parser.proofs.{more_by-min}
