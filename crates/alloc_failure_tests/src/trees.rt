@@ -118,8 +118,8 @@ fn merges(alloc: Global, tree: &mut Tree, given: Option<&Ancestry>, wanted: Merg
     }
 }
 
-/// Merges the ancestries of `three`, `other`, `long` and `mixed`, and then the ancestry of `three` again. Returns whether each
-/// merge has the expected result.
+/// Merges the ancestries of `three`, `other`, `long` and `mixed`, and then the ancestry of `three` again. Returns whether
+/// each merge has the expected result.
 fn grows(alloc: Global, tree: &mut Tree) -> bool {
     let three = revisions::three(alloc).ok();
     merges(alloc, tree, three.as_ref(), Merged::Changed)
