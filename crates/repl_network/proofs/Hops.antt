@@ -1,16 +1,17 @@
--- The effect of replications in a network: its peers stay tied, and documents spread along chains.
-use Rattle.proof_prelude.proofs.{◌≡◌, ◌≢◌, ◌⊎◌, ℕ, ◌==◌, true, List, [], ◌∷◌, length, refl, sym, ◌∙◌, subst, inl, inr, cases_Bool, eqb-false, and_parts, slice_get_within, eqb-true}
+-- The effect of replications in a network: documents spread along chains.
+use Rattle.proof_prelude.proofs.{◌≡◌, ◌≢◌, ◌⊎◌, ℕ, ◌==◌, true, List, [], ◌∷◌, length, sym, ◌∙◌, subst, inl, inr, cases_Bool, eqb-false, and_parts, slice_get_within, eqb-true}
 use Rattle.rev_core.specs.{RevId}
 use Rattle.rev_tree.specs.{TreeValue, has, is_leaf, IsGrownBy-same, all_known, same_by_leaves, same_leaves}
-use Rattle.doc_json.specs.{Choice, is_chosen}
+use Rattle.doc_json.specs.{is_chosen}
 use Rattle.couch_base.specs.{Id, DatabaseValue, LawfulDatabase, tree_of}
 use Rattle.repl_peer.specs.{PeerValue, IsLaterPeer}
 use Rattle.repl_peer.proofs.{IsLaterPeer-same, logs_later}
-use Rattle.repl_target.specs.{CoversFeed, IsTiedPair, IsTiedWith, HasGrownBy}
-use Rattle.repl_target.proofs.{tree_lawful, leaf_covered, left_law, left_grown, covered_stands, turned_tied}
+use Rattle.repl_target.specs.{CoversFeed, IsTiedPair, HasGrownBy}
+use Rattle.repl_target.proofs.{tree_lawful, leaf_covered, left_law, left_grown, covered_stands}
 use Rattle.repl_network.specs.{Hop, IsAt, AreTied, AllAgree, AllWhole, IsRefusedNowhere, IsSameEverywhere, AllChoose, Leads, LeadsEverywhere, Spread, AllHopped, AllLawful}
 use Rattle.repl_network.specs.Hopped.{Hopped}
 use Rattle.repl_network.proofs.Trees.{Agree-both, IsWhole-grown}
+use Rattle.repl_network.proofs.Positions.{hop_tied}
 use Rattle.repl_network.proofs.Writes.{one_peer}
 
 abbrev tree : PeerValue → Id → TreeValue
@@ -33,14 +34,6 @@ where_is from to n =
       | inl t ↦ inl (eqb-true n from t)
       | inr f ↦ elim (cases_Bool (n == to)) [ inl t ↦ inr (inl (eqb-true n to t)) | inr g ↦ inr (inr (eqb-false n from f, eqb-false n to g)) ]
     ]
-
--- two peers are the same two
-both : (c : Choice) (x p y q : PeerValue) → x ≡ p → y ≡ q → IsTiedPair x y c → IsTiedPair p q c
-both c x p y q e f h = subst (λ z. IsTiedPair z q c) e (subst (λ z. IsTiedPair x z c) f h)
-
--- without backups
-with_none : (p q : PeerValue) (c : Choice) → IsTiedPair p q c → IsTiedWith [] p q c
-with_none p q c h = record { pair = h; copies = λ b m. absurd m }
 
 module _ (peers : List PeerValue) (hop : Hop) (peers' : List PeerValue) (h : Hopped peers hop peers') where
   pub target_later : IsLaterPeer h.target h.target_then
@@ -96,48 +89,6 @@ module _ (peers : List PeerValue) (hop : Hop) (peers' : List PeerValue) (h : Hop
   pub still : (n : ℕ) (p : PeerValue) → IsAt peers n p → (q : PeerValue) × IsAt peers' n q × Changed h.source.db p q
   still n p at = is_at n p at (where_is hop.from hop.to n)
 
-  -- ---- every two stay tied
-
-  module _ (net : AreTied peers) where
-    pair_then : (m n : ℕ) (p q : PeerValue) → IsAt peers' m p → IsAt peers' n q → m ≢ n → (c : Choice) → Where hop.from hop.to m → Where hop.from hop.to n → IsTiedPair p q c
-    pair_then m n p q a b apart c (inl i) (inl j) = absurd (apart (i ∙ sym j))
-    pair_then m n p q a b apart c (inl i) (inr (inl j)) =
-        both c h.source_then p h.target_then q (source_is m p a i) (target_is n q b j)
-        (h.carried.leaves.tied c [] (with_none h.source h.target c (net.tied hop.from hop.to h.source h.target h.from h.to h.two c))).pair
-    pair_then m n p q a b apart c (inl i) (inr (inr o)) =
-        let there = other_is n q b o in
-        both c h.source_then p q q (source_is m p a i) refl
-        (h.carried.leaves.others.outward q c [] (λ e. o.1 (net.apart n hop.to q h.target there h.to e))
-        (with_none h.source q c (net.tied hop.from n h.source q h.from there (λ e. o.0 (sym e)) c))).pair
-    pair_then m n p q a b apart c (inr (inl i)) (inl j) =
-        both c h.target_then p h.source_then q (target_is m p a i) (source_is n q b j)
-        (turned_tied h.source h.target h.source_then h.target_then h.carried.leaves.others c []
-        (with_none h.target h.source c (net.tied hop.to hop.from h.target h.source h.to h.from (λ e. h.two (sym e)) c))).pair
-    pair_then m n p q a b apart c (inr (inl i)) (inr (inl j)) = absurd (apart (i ∙ sym j))
-    pair_then m n p q a b apart c (inr (inl i)) (inr (inr o)) =
-        let there = other_is n q b o in
-        both c h.target_then p q q (target_is m p a i) refl
-        (h.carried.leaves.others.onward q c [] (with_none h.target q c (net.tied hop.to n h.target q h.to there (λ e. o.1 (sym e)) c))).pair
-    pair_then m n p q a b apart c (inr (inr o)) (inl j) =
-        let here = other_is m p a o in
-        both c p p h.source_then q refl (source_is n q b j)
-        (h.carried.leaves.others.inward p c [] (with_none p h.source c (net.tied m hop.from p h.source here h.from o.0 c))).pair
-    pair_then m n p q a b apart c (inr (inr o)) (inr (inl j)) =
-        let here = other_is m p a o in
-        both c p p h.target_then q refl (target_is n q b j)
-        (h.carried.leaves.others.beside p c [] (λ e. o.0 (net.apart m hop.from p h.source here h.from e))
-        (with_none p h.target c (net.tied m hop.to p h.target here h.to o.1 c))).pair
-    pair_then m n p q a b apart c (inr (inr o)) (inr (inr t)) = net.tied m n p q (other_is m p a o) (other_is n q b t) apart c
-
-    pub hop_tied : AreTied peers'
-    hop_tied = record {
-      apart = λ m n p q a b e.
-          (let x = was m p a in
-          let y = was n q b in
-          net.apart m n x.0 y.0 x.1 y.1 (sym x.2.later.db.uuid ∙ (e ∙ y.2.later.db.uuid)));
-      tied = λ m n p q a b apart c. pair_then m n p q a b apart c (where_is hop.from hop.to m) (where_is hop.from hop.to n);
-    }
-
   -- ---- the invariant, and refusals
 
   law_at : ((n : ℕ) (p : PeerValue) → IsAt peers n p → LawfulDatabase p.db) → (n : ℕ) (p : PeerValue) → IsAt peers' n p → Where hop.from hop.to n → LawfulDatabase p.db
@@ -173,7 +124,7 @@ module _ (peers : List PeerValue) (hop : Hop) (peers' : List PeerValue) (h : Hop
     pub hop_brings : (IsTiedPair h.source h.target hop.plan.chosen → CoversFeed h.source h.target_then hop.plan.chosen h.source.db.update_seq) → AreTied peers → is_chosen hop.plan.chosen id ≡ true → IsRefusedNowhere peers' id → (r : RevId) → has (tree h.source id) r ≡ true → has (tree h.target_then id) r ≡ true
     hop_brings covers net chosen none r there =
         let a = agree hop.from hop.to h.source h.target h.from h.to in
-        let covered = covers (net.tied hop.from hop.to h.source h.target h.from h.to h.two hop.plan.chosen) in
+        let covered = covers (net.tied hop.from hop.to h.source h.target h.from h.to h.two hop.plan.chosen [] (λ _ m. absurd m)).pair in
         all_known (tree h.source id) (tree h.target_then id) (tree_lawful h.source.db h.carried.source_law id) (tree_lawful h.target_then.db h.carried.target_law id)
         (Agree-both (tree h.source id) (tree h.source id) (tree h.target id) (tree h.source id) (tree h.target_then id) (IsGrownBy-same (tree h.source id) (tree h.source id)) (target_grown id) a (agree hop.from hop.from h.source h.source h.from h.from) a)
         (IsWhole-grown (tree h.target id) (tree h.source id) (tree h.target_then id) (target_grown id) (whole hop.to h.target h.to) (whole hop.from h.source h.from))

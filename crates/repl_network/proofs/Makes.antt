@@ -9,7 +9,7 @@ use Rattle.repl_network.specs.{Hop, IsAt, peers_of, tree_alone, IsRooted, IsRoot
 use Rattle.repl_network.specs.Hopped.{Hopped}
 use Rattle.repl_network.proofs.Trees.{alone, IsWhole-grown}
 use Rattle.repl_network.proofs.Edits.{edit_rooted, edit_makes, sig_of}
-use Rattle.repl_network.proofs.Closed.{old_or_new, peers_more}
+use Rattle.repl_network.proofs.Positions.{old_or_new, peers_more}
 use Rattle.repl_network.proofs.Hops.{was}
 use Rattle.repl_network.proofs.Writes as writes
 

@@ -3,9 +3,11 @@ use Rattle.proof_prelude.proofs.{◌≡◌, ◌≢◌, ℕ, zero, suc, ◌+◌, 
 use Rattle.doc_json.specs.Document.{Document}
 use Rattle.repl_peer.specs.{PeerValue, Report, TargetFault}
 use Rattle.repl_target.specs.{CoversFeed, IsTiedPair, Replicates}
-use Rattle.repl_network.specs.{Hop, IsAt, AreTied, peers_of, filters_of, NetFault, IsHop, TakesHop, TakesHops, Carried, Ended, AllHopped, IsChangedAt}
+use Rattle.repl_network.specs.{Hop, IsAt, AreKept, IsNet, peers_of, filters_of, NetFault, IsHop, TakesHop, TakesHops, Carried, Ended, AllHopped, IsChangedAt}
 use Rattle.doc_json.specs.{Choice}
 use Rattle.repl_network.specs.Hopped.{Hopped}
+use Rattle.repl_network.proofs.Steps.{network_tied}
+use Rattle.repl_network.proofs.Positions.{decide}
 
 -- ---- indices in two concatenated lists
 
@@ -56,157 +58,87 @@ length-joined : {X : Type 0} (xs ys : List X) → length xs < length (xs ++ ys) 
 length-joined [] ys h = h
 length-joined (x ∷ xs) ys h = length-joined xs ys (omega (arith, h))
 
--- ---- the two places
+-- ---- two peers were replaced
 
-module _ {F : Type 0} (peers front back : List (F × PeerValue)) (k n : ℕ) (d e a' b' : F × PeerValue) (is : peers ≡ front ++ back) (len : length front ≡ n) (low : k < n) (within : n < length peers) where
-  abbrev a : F × PeerValue
-  a = get_or front k d
+pub record AreReplaced {F : Type 0} (peers : List (F × PeerValue)) (m n : ℕ) (a b a' b' : F × PeerValue) (peers' : List (F × PeerValue)) : Type 0 where
+  pub two : m ≢ n
+  pub first : slice_get peers m ≡ Some a
+  pub second : slice_get peers n ≡ Some b
+  pub first_then : slice_get peers' m ≡ Some a'
+  pub second_then : slice_get peers' n ≡ Some b'
+  pub others : (k : ℕ) → k ≢ m → k ≢ n → slice_get peers' k ≡ slice_get peers k
 
-  abbrev b : F × PeerValue
-  b = get_or back 0 e
+pub swapped : {F : Type 0} (peers : List (F × PeerValue)) (m n : ℕ) (a b a' b' : F × PeerValue) (peers' : List (F × PeerValue)) → AreReplaced peers m n a b a' b' peers' → AreReplaced peers n m b a b' a' peers'
+swapped peers m n a b a' b' peers' r =
+    record { two = λ e. r.two (sym e); first = r.second; second = r.first; first_then = r.second_then; second_then = r.first_then; others = λ k x y. r.others k y x }
 
-  abbrev then : List (F × PeerValue)
-  then = slice_set front k a' ++ slice_set back 0 b'
+-- one on each side of a split
+pub split_replaced : {F : Type 0} (peers front back : List (F × PeerValue)) (k n : ℕ) (d e a' b' : F × PeerValue) → peers ≡ front ++ back → length front ≡ n → k < n → n < length peers
+    → AreReplaced peers k n (get_or front k d) (get_or back 0 e) a' b' (slice_set front k a' ++ slice_set back 0 b')
+split_replaced peers front back k n d e a' b' is len low within = record {
+  two = λ x. omega (arith, low, x);
+  first = ap (λ ps. slice_get ps k) is ∙ (in_front front back k inside ∙ slice_get-get_or front k d inside);
+  second = ap (λ ps. slice_get ps n) is ∙ (ap (slice_get (front ++ back)) (sym len) ∙ (at_back front back ∙ slice_get-get_or back 0 e some));
+  first_then = in_front (slice_set front k a') (slice_set back 0 b') k (let l = set_length front k a' in omega (arith, inside, l)) ∙ set_there front k a' inside;
+  second_then = ap (slice_get (slice_set front k a' ++ slice_set back 0 b')) (sym (set_length front k a' ∙ len)) ∙ (at_back (slice_set front k a') (slice_set back 0 b') ∙ set_there back 0 b' some);
+  others = λ m x y. both_set front back k a' b' m x (λ z. y (z ∙ len)) ∙ ap (λ ps. slice_get ps m) (sym is);
+}
+  where
+    some : 0 < length back
+    some = length-joined front back (subst (λ m. m < length (front ++ back)) (sym len) (subst (λ ps. n < length ps) is within))
 
-  some : 0 < length back
-  some = length-joined front back (subst (λ m. m < length (front ++ back)) (sym len) (subst (λ ps. n < length ps) is within))
+    inside : k < length front
+    inside = omega (arith, low, len)
 
-  inside : k < length front
-  inside = omega (arith, low, len)
+pub at_of : {F : Type 0} (peers : List (F × PeerValue)) (place : ℕ) (p : F × PeerValue) → slice_get peers place ≡ Some p → IsAt (peers_of peers) place p.1
+at_of {F = F} peers place p is =
+    let of : F × PeerValue → PeerValue = λ x. x.1 in
+    slice_get-map of peers place ∙ ap (option_map of) is
 
-  at : (xs : List (F × PeerValue)) (m : ℕ) (x : F × PeerValue) → slice_get xs m ≡ Some x → IsAt (peers_of xs) m x.1
-  at xs m x h = slice_get-map (λ (p : F × PeerValue). p.1) xs m ∙ ap (option_map (λ (p : F × PeerValue). p.1)) h
-
-  -- the two peers and the others, with their filters
-  pub low_there : slice_get peers k ≡ Some a
-  low_there = ap (λ ps. slice_get ps k) is ∙ (in_front front back k inside ∙ slice_get-get_or front k d inside)
-
-  pub high_there : slice_get peers n ≡ Some b
-  high_there = ap (λ ps. slice_get ps n) is ∙ (ap (slice_get (front ++ back)) (sym len) ∙ (at_back front back ∙ slice_get-get_or back 0 e some))
-
-  pub low_set : slice_get then k ≡ Some a'
-  low_set = in_front (slice_set front k a') (slice_set back 0 b') k (let l = set_length front k a' in omega (arith, inside, l)) ∙ set_there front k a' inside
-
-  pub high_set : slice_get then n ≡ Some b'
-  high_set = ap (slice_get then) (sym (set_length front k a' ∙ len)) ∙ (at_back (slice_set front k a') (slice_set back 0 b') ∙ set_there back 0 b' some)
-
-  pub others_stay : (m : ℕ) → m ≢ k → m ≢ n → slice_get then m ≡ slice_get peers m
-  others_stay m x y = both_set front back k a' b' m x (λ e. y (e ∙ len)) ∙ ap (λ ps. slice_get ps m) (sym is)
-
-  -- the two peers and the others, without their filters
-  pub low_was : IsAt (peers_of peers) k a.1
-  low_was = at peers k a low_there
-
-  pub high_was : IsAt (peers_of peers) n b.1
-  high_was = at peers n b high_there
-
-  pub low_then : IsAt (peers_of then) k a'.1
-  low_then = at then k a' low_set
-
-  pub high_then : IsAt (peers_of then) n b'.1
-  high_then = at then n b' high_set
-
-  pub others_then : (m : ℕ) → m ≢ k → m ≢ n → slice_get (peers_of then) m ≡ slice_get (peers_of peers) m
-  others_then m x y =
-      slice_get-map (λ (p : F × PeerValue). p.1) then m
-      ∙ (ap (option_map (λ (p : F × PeerValue). p.1)) (others_stay m x y) ∙ sym (slice_get-map (λ (p : F × PeerValue). p.1) peers m))
+pub same_at : {F : Type 0} (peers peers' : List (F × PeerValue)) (n : ℕ) → slice_get peers' n ≡ slice_get peers n → slice_get (peers_of peers') n ≡ slice_get (peers_of peers) n
+same_at {F = F} peers peers' n same =
+    let of : F × PeerValue → PeerValue = λ x. x.1 in
+    slice_get-map of peers' n ∙ (ap (option_map of) same ∙ sym (slice_get-map of peers n))
 
 -- ---- the effect of a replication between them
 
-ended_if : {A E : Type 0} (peers peers' : List PeerValue) (hop : Hop) (h : Hopped peers hop peers') (r : Result A E) → OnOk r (IsTiedPair h.source h.target hop.plan.chosen → CoversFeed h.source h.target_then hop.plan.chosen h.source.db.update_seq) → OnOk r (Ended peers hop peers')
-ended_if peers peers' hop h (Ok done) whole = record { hopped = h; whole = whole }
-ended_if peers peers' hop h (Err why) whole = tt
-
--- the source is before the target
-module _ {F A E : Type 0} (peers front back : List (F × PeerValue)) (hop : Hop) (refuses : Document → Bool) (d e source' target' : F × PeerValue) (r : Result A E) (is : peers ≡ front ++ back) (len : length front ≡ hop.to) (low : hop.from < hop.to) (within : hop.to < length peers)
-    (carried : Carried refuses (get_or front hop.from d).1 (get_or back 0 e).1 hop.plan source'.1 target'.1) where
-  abbrev source : F × PeerValue
-  source = get_or front hop.from d
-
-  abbrev target : F × PeerValue
-  target = get_or back 0 e
-
-  abbrev pub up : Hopped (peers_of peers) hop (peers_of (slice_set front hop.from source' ++ slice_set back 0 target'))
-  up = record {
-    refuses = refuses;
-    source = source.1;
-    target = target.1;
-    source_then = source'.1;
-    target_then = target'.1;
-    two = λ e. omega (arith, low, e);
-    from = low_was peers front back hop.from hop.to d e source' target' is len low within;
-    to = high_was peers front back hop.from hop.to d e source' target' is len low within;
-    from_then = low_then peers front back hop.from hop.to d e source' target' is len low within;
-    to_then = high_then peers front back hop.from hop.to d e source' target' is len low within;
-    others = others_then peers front back hop.from hop.to d e source' target' is len low within;
-    carried = carried;
+module _ {F : Type 0} (peers peers' : List (F × PeerValue)) (hop : Hop) (s t s' t' : F × PeerValue) (two : AreReplaced peers hop.from hop.to s t s' t' peers') where
+  -- the replication is a hop
+  pub hop_of : (may : F → Document → Bool) (r : Result Report TargetFault) → s'.0 ≡ s.0 → t'.0 ≡ t.0 → Replicates (may t.0) s.1 t.1 hop.plan r s'.1 t'.1 → IsHop may peers hop r peers'
+  hop_of may r same same' replicates = record {
+    source = s;
+    target = t;
+    source_then = s'.1;
+    target_then = t'.1;
+    two = two.two;
+    from = two.first;
+    to = two.second;
+    from_then = two.first_then ∙ ap (λ (f : F). Some (f, s'.1)) same;
+    to_then = two.second_then ∙ ap (λ (f : F). Some (f, t'.1)) same';
+    others = two.others;
+    replicates = replicates;
   }
 
-  pub up_ended : OnOk r (IsTiedPair source.1 target.1 hop.plan.chosen → CoversFeed source.1 target'.1 hop.plan.chosen source.1.db.update_seq) → OnOk r (Ended (peers_of peers) hop (peers_of (slice_set front hop.from source' ++ slice_set back 0 target')))
-  up_ended whole = ended_if (peers_of peers) (peers_of (slice_set front hop.from source' ++ slice_set back 0 target')) hop up r whole
+  module _ (refuses : Document → Bool) (carried : Carried refuses s.1 t.1 hop.plan s'.1 t'.1) where
+    abbrev pub hopped_of : Hopped (peers_of peers) hop (peers_of peers')
+    hopped_of = record {
+      refuses = refuses;
+      source = s.1;
+      target = t.1;
+      source_then = s'.1;
+      target_then = t'.1;
+      two = two.two;
+      from = at_of peers hop.from s two.first;
+      to = at_of peers hop.to t two.second;
+      from_then = at_of peers' hop.from s' two.first_then;
+      to_then = at_of peers' hop.to t' two.second_then;
+      others = λ n x y. same_at peers peers' n (two.others n x y);
+      carried = carried;
+    }
 
--- the replication is a hop
-pub up_hop : {F : Type 0} (may : F → Document → Bool) (peers front back : List (F × PeerValue)) (hop : Hop) (d e source' target' : F × PeerValue) (r : Result Report TargetFault) → peers ≡ front ++ back → length front ≡ hop.to → hop.from < hop.to → hop.to < length peers
-    → source'.0 ≡ (get_or front hop.from d).0 → target'.0 ≡ (get_or back 0 e).0 → Replicates (may (get_or back 0 e).0) (get_or front hop.from d).1 (get_or back 0 e).1 hop.plan r source'.1 target'.1
-    → IsHop may peers hop r (slice_set front hop.from source' ++ slice_set back 0 target')
-up_hop {F = F} may peers front back hop d e source' target' r is len low within same same' replicates = record {
-  source = get_or front hop.from d;
-  target = get_or back 0 e;
-  source_then = source'.1;
-  target_then = target'.1;
-  two = λ x. omega (arith, low, x);
-  from = low_there peers front back hop.from hop.to d e source' target' is len low within;
-  to = high_there peers front back hop.from hop.to d e source' target' is len low within;
-  from_then = low_set peers front back hop.from hop.to d e source' target' is len low within ∙ ap (λ (f : F). Some (f, source'.1)) same;
-  to_then = high_set peers front back hop.from hop.to d e source' target' is len low within ∙ ap (λ (f : F). Some (f, target'.1)) same';
-  others = others_stay peers front back hop.from hop.to d e source' target' is len low within;
-  replicates = replicates;
-}
-
--- the source is after the target
-module _ {F A E : Type 0} (peers front back : List (F × PeerValue)) (hop : Hop) (refuses : Document → Bool) (d e source' target' : F × PeerValue) (r : Result A E) (is : peers ≡ front ++ back) (len : length front ≡ hop.from) (low : hop.to < hop.from) (within : hop.from < length peers)
-    (carried : Carried refuses (get_or back 0 e).1 (get_or front hop.to d).1 hop.plan source'.1 target'.1) where
-  abbrev sender : F × PeerValue
-  sender = get_or back 0 e
-
-  abbrev receiver : F × PeerValue
-  receiver = get_or front hop.to d
-
-  abbrev pub down : Hopped (peers_of peers) hop (peers_of (slice_set front hop.to target' ++ slice_set back 0 source'))
-  down = record {
-    refuses = refuses;
-    source = sender.1;
-    target = receiver.1;
-    source_then = source'.1;
-    target_then = target'.1;
-    two = λ e. omega (arith, low, e);
-    from = high_was peers front back hop.to hop.from d e target' source' is len low within;
-    to = low_was peers front back hop.to hop.from d e target' source' is len low within;
-    from_then = high_then peers front back hop.to hop.from d e target' source' is len low within;
-    to_then = low_then peers front back hop.to hop.from d e target' source' is len low within;
-    others = λ m x y. others_then peers front back hop.to hop.from d e target' source' is len low within m y x;
-    carried = carried;
-  }
-
-  pub down_ended : OnOk r (IsTiedPair sender.1 receiver.1 hop.plan.chosen → CoversFeed sender.1 target'.1 hop.plan.chosen sender.1.db.update_seq) → OnOk r (Ended (peers_of peers) hop (peers_of (slice_set front hop.to target' ++ slice_set back 0 source')))
-  down_ended whole = ended_if (peers_of peers) (peers_of (slice_set front hop.to target' ++ slice_set back 0 source')) hop down r whole
-
-pub down_hop : {F : Type 0} (may : F → Document → Bool) (peers front back : List (F × PeerValue)) (hop : Hop) (d e source' target' : F × PeerValue) (r : Result Report TargetFault) → peers ≡ front ++ back → length front ≡ hop.from → hop.to < hop.from → hop.from < length peers
-    → source'.0 ≡ (get_or back 0 e).0 → target'.0 ≡ (get_or front hop.to d).0 → Replicates (may (get_or front hop.to d).0) (get_or back 0 e).1 (get_or front hop.to d).1 hop.plan r source'.1 target'.1
-    → IsHop may peers hop r (slice_set front hop.to target' ++ slice_set back 0 source')
-down_hop {F = F} may peers front back hop d e source' target' r is len low within same same' replicates = record {
-  source = get_or back 0 e;
-  target = get_or front hop.to d;
-  source_then = source'.1;
-  target_then = target'.1;
-  two = λ x. omega (arith, low, x);
-  from = high_there peers front back hop.to hop.from d e target' source' is len low within;
-  to = low_there peers front back hop.to hop.from d e target' source' is len low within;
-  from_then = high_set peers front back hop.to hop.from d e target' source' is len low within ∙ ap (λ (f : F). Some (f, source'.1)) same;
-  to_then = low_set peers front back hop.to hop.from d e target' source' is len low within ∙ ap (λ (f : F). Some (f, target'.1)) same';
-  others = λ m x y. others_stay peers front back hop.to hop.from d e target' source' is len low within m y x;
-  replicates = replicates;
-}
+    pub ended_of : {A E : Type 0} (r : Result A E) → OnOk r (IsTiedPair s.1 t.1 hop.plan.chosen → CoversFeed s.1 t'.1 hop.plan.chosen s.1.db.update_seq) → OnOk r (Ended (peers_of peers) hop (peers_of peers'))
+    ended_of (Ok done) whole = record { hopped = hopped_of; whole = whole }
+    ended_of (Err why) whole = tt
 
 -- ---- a property of each peer, from the first on
 
@@ -217,7 +149,7 @@ module _ {F : Type 0} (P : PeerValue → Type 0) (peers : List (F × PeerValue))
         | inl below ↦ before n p below at
         | inr over ↦
             let last : n ≡ k = omega (arith, less, over) in
-            let found : IsAt (peers_of peers) k x.1 = slice_get-map (λ (p : F × PeerValue). p.1) peers k ∙ ap (option_map (λ (p : F × PeerValue). p.1)) (slice_get-get_or peers k x within ∙ ap Some (sym is)) in
+            let found : IsAt (peers_of peers) k x.1 = at_of peers k x (slice_get-get_or peers k x within ∙ ap Some (sym is)) in
             let same : x.1 ≡ p = ap (λ (o : Option PeerValue). unwrap_or o x.1) (sym found ∙ subst (λ m. IsAt (peers_of peers) m p) last at) in
             subst P same here
       ]
@@ -279,32 +211,18 @@ takes_all refuses old now hops k over before =
 
 -- ---- one place
 
-module _ {F : Type 0} (peers : List (F × PeerValue)) (place : ℕ) (d : F × PeerValue) (within : place < length peers) (a : F × PeerValue) where
-  abbrev first_of_two : F × PeerValue → PeerValue
-  first_of_two p = p.1
-
-  set_others : (n : ℕ) → n ≢ place → slice_get (slice_set peers place a) n ≡ slice_get peers n
-  set_others n apart = set_other peers place a n apart
-
-  pub changed_at : (change : PeerValue → PeerValue) → a.1 ≡ change (get_or peers place d).1 → IsChangedAt place change (peers_of peers) (peers_of (slice_set peers place a))
-  changed_at change is = record {
-    before = (get_or peers place d).1;
-    at = slice_get-map first_of_two peers place ∙ ap (option_map first_of_two) (slice_get-get_or peers place d within);
-    at_then = slice_get-map first_of_two (slice_set peers place a) place ∙ (ap (option_map first_of_two) (set_there peers place a within) ∙ ap Some is);
-    others = λ n apart.
-        slice_get-map first_of_two (slice_set peers place a) n
-        ∙ (ap (option_map first_of_two) (set_others n apart) ∙ sym (slice_get-map first_of_two peers n));
-  }
+pub changed_at : {F : Type 0} (peers : List (F × PeerValue)) (place : ℕ) (d : F × PeerValue) → place < length peers → (a : F × PeerValue) (change : PeerValue → PeerValue) → a.1 ≡ change (get_or peers place d).1 → IsChangedAt place change (peers_of peers) (peers_of (slice_set peers place a))
+changed_at peers place d within a change is = record {
+  before = (get_or peers place d).1;
+  at = at_of peers place (get_or peers place d) (slice_get-get_or peers place d within);
+  at_then = at_of (slice_set peers place a) place a (set_there peers place a within) ∙ ap Some is;
+  others = λ n apart. same_at peers (slice_set peers place a) n (set_other peers place a n apart);
+}
 
 pub unchanged_at : {F : Type 0} (peers : List (F × PeerValue)) (place : ℕ) (d : F × PeerValue) (a : F × PeerValue) → place < length peers → a.1 ≡ (get_or peers place d).1 → peers_of (slice_set peers place a) ≡ peers_of peers
 unchanged_at [] place d a h is = refl
 unchanged_at (x ∷ xs) zero d a h is = ap (λ p. p ∷ peers_of xs) is
 unchanged_at (x ∷ xs) (suc k) d a h is = ap (λ ps. x.1 ∷ ps) (unchanged_at xs k d a (omega (arith, h)) is)
-
-pub at_of : {F : Type 0} (peers : List (F × PeerValue)) (place : ℕ) (p : F × PeerValue) → slice_get peers place ≡ Some p → IsAt (peers_of peers) place p.1
-at_of {F = F} peers place p is =
-    let of : F × PeerValue → PeerValue = λ x. x.1 in
-    slice_get-map of peers place ∙ ap (option_map of) is
 
 pub there_at : {F : Type 0} (peers : List (F × PeerValue)) (place : ℕ) (d : F × PeerValue) → place < length peers → IsAt (peers_of peers) place (get_or peers place d).1
 there_at peers place d within = at_of peers place (get_or peers place d) (slice_get-get_or peers place d within)
@@ -320,10 +238,8 @@ whole_vector items new len is = ap (λ n. take n (new ++ drop (length new) items
 
 -- ---- two places
 
-pub tied_two : {F : Type 0} (peers : List (F × PeerValue)) (m n : ℕ) (p q : F × PeerValue) (c : Choice) → AreTied (peers_of peers) → slice_get peers m ≡ Some p → slice_get peers n ≡ Some q → m ≢ n → IsTiedPair p.1 q.1 c
-tied_two {F = F} peers m n p q c net a b apart =
-    let of : F × PeerValue → PeerValue = λ x. x.1 in
-    net.tied m n p.1 q.1 (slice_get-map of peers m ∙ ap (option_map of) a) (slice_get-map of peers n ∙ ap (option_map of) b) apart c
+pub tied_two : {F : Type 0} (peers : List (F × PeerValue)) (m n : ℕ) (p q : F × PeerValue) (c : Choice) → IsNet [] (peers_of peers) → slice_get peers m ≡ Some p → slice_get peers n ≡ Some q → IsTiedPair p.1 q.1 c
+tied_two peers m n p q c net a b = (network_tied decide (slice_get (peers_of peers)) (AreKept []) net m n p.1 q.1 (at_of peers m p a) (at_of peers n q b) c [] (λ x i. absurd i)).pair
 
 -- ---- filters
 

@@ -1,17 +1,12 @@
--- The effect of a write at one peer of a network: its peers stay tied, and trees that agree still agree if the write
--- fits.
+-- The effect of a write at one peer of a network: trees that agree still agree if the write fits.
 use Rattle.proof_prelude.proofs.{◌≡◌, ◌≢◌, ◌⊎◌, ℕ, ◌==◌, Bool, true, false, cond, List, slice_get, Option, Some, unwrap_or, Result, Ok, Err, refl, sym, ap, ◌∙◌, subst, inl, inr, bytes_eq, cases_Bool, cond_both, eqb-false, bytes_eq-Decides, eqb-true}
 use Rattle.rev_core.specs.{RevId}
 use Rattle.rev_tree.specs.{TreeValue, has, merged, no_revisions, Agree, IsWhole, IsRoot, IsGrownBy, IsGrownBy-same, Origin}
 use Rattle.rev_tree.specs.declared.origin.Origin.TheVariants.{Local}
 use Rattle.doc_json.specs.Document.{Document}
-use Rattle.doc_json.specs.{Choice}
 use Rattle.couch_base.specs.{Id, DatabaseValue, tree_in, tree_of, with_tree, tree_in-with_tree, put_answer, is_changed, content_of, after_put, edited, edit_document, BaseFault}
-use Rattle.repl_peer.specs.{PeerValue, IsLaterPeer, next_local, after_load, load_edited, after_edit}
-use Rattle.repl_peer.proofs.{load_later, IsLaterPeer-same}
-use Rattle.repl_target.specs.{IsTiedPair, Load}
-use Rattle.repl_target.proofs.{tied_call, tied_source}
-use Rattle.repl_network.specs.{IsAt, AreTied, AllAgree, AllWhole, tree_alone, FitsIn, IsRooted, IsRootedAt, EditFits, KeepsAgreement, IsChangedAt}
+use Rattle.repl_peer.specs.{PeerValue, next_local, after_load, load_edited, after_edit}
+use Rattle.repl_network.specs.{IsAt, AllAgree, AllWhole, tree_alone, FitsIn, IsRooted, IsRootedAt, EditFits, KeepsAgreement, IsChangedAt}
 use Rattle.repl_network.proofs.Edits.{edit_rooted}
 use Rattle.repl_network.proofs.Trees.{Agree-both, IsGrownBy-written, IsWhole-written}
 
@@ -57,12 +52,6 @@ module _ (peers peers' : List PeerValue) (same : (n : ℕ) → slice_get peers' 
   pub before_at : (n : ℕ) (p : PeerValue) → IsAt peers' n p → IsAt peers n p
   before_at n p at = sym (same n) ∙ at
 
-  pub same_tied : AreTied peers → AreTied peers'
-  same_tied net = record {
-    apart = λ m n p q a b e. net.apart m n p q (before_at m p a) (before_at n q b) e;
-    tied = λ m n p q a b apart c. net.tied m n p q (before_at m p a) (before_at n q b) apart c;
-  }
-
   pub same_agree : (id : Id) → KeepsAgreement peers peers' id
   same_agree id agree whole = (λ m n p q a b. agree m n p q (before_at m p a) (before_at n q b), λ n p at. whole n p (before_at n p at))
 
@@ -78,43 +67,11 @@ module _ (peers : List PeerValue) (place : ℕ) (d : Document) (peers' : List Pe
   pub where_is : (n : ℕ) → Where n
   where_is n = elim (cases_Bool (n == place)) [ inl t ↦ inl (eqb-true n place t) | inr f ↦ inr (eqb-false n place f) ]
 
-  pub later : IsLaterPeer w.before after
-  later = load_later w.before d
-
   pub after_is : (n : ℕ) (p : PeerValue) → IsAt peers' n p → n ≡ place → after ≡ p
   after_is n p at e = one_peer peers' place after p w.at_then (subst (λ k. IsAt peers' k p) e at)
 
   pub other_is : (n : ℕ) (p : PeerValue) → IsAt peers' n p → n ≢ place → IsAt peers n p
   other_is n p at o = sym (w.others n o) ∙ at
-
-  -- each peer was at its place before
-  was_at : (n : ℕ) (p : PeerValue) → IsAt peers' n p → Where n → (q : PeerValue) × IsAt peers n q × IsLaterPeer q p
-  was_at n p at (inl e) = (w.before, subst (λ k. IsAt peers k w.before) (sym e) w.at, subst (IsLaterPeer w.before) (after_is n p at e) later)
-  was_at n p at (inr o) = (p, other_is n p at o, IsLaterPeer-same p)
-
-  module _ (net : AreTied peers) where
-    into : (p : PeerValue) (c : Choice) → IsTiedPair p w.before c → IsTiedPair p after c
-    into p c h = tied_call (λ _. false) p w.before c (Load d) tt later h
-
-    out_of : (q : PeerValue) (c : Choice) → IsTiedPair w.before q c → IsTiedPair after q c
-    out_of q c h = tied_source w.before after q c later.db refl h
-
-    pair_then : (m n : ℕ) (p q : PeerValue) → IsAt peers' m p → IsAt peers' n q → m ≢ n → (c : Choice) → Where m → Where n → IsTiedPair p q c
-    pair_then m n p q a b apart c (inl i) (inl j) = absurd (apart (i ∙ sym j))
-    pair_then m n p q a b apart c (inl i) (inr o) =
-        subst (λ x. IsTiedPair x q c) (after_is m p a i) (out_of q c (net.tied place n w.before q w.at (other_is n q b o) (λ e. o (sym e)) c))
-    pair_then m n p q a b apart c (inr o) (inl j) =
-        subst (λ x. IsTiedPair p x c) (after_is n q b j) (into p c (net.tied m place p w.before (other_is m p a o) w.at o c))
-    pair_then m n p q a b apart c (inr o) (inr t) = net.tied m n p q (other_is m p a o) (other_is n q b t) apart c
-
-    pub wrote_tied : AreTied peers'
-    wrote_tied = record {
-      apart = λ m n p q a b e.
-          (let x = was_at m p a (where_is m) in
-          let y = was_at n q b (where_is n) in
-          net.apart m n x.0 y.0 x.1 y.1 (sym x.2.db.uuid ∙ (e ∙ y.2.db.uuid)));
-      tied = λ m n p q a b apart c. pair_then m n p q a b apart c (where_is m) (where_is n);
-    }
 
   -- ---- a document
 
@@ -196,13 +153,6 @@ module _ (peers : List PeerValue) (place : ℕ) (id : Id) (parent : Option RevId
             subst (λ m. slice_get peers' m ≡ slice_get peers m) (sym here) (subst (λ r. IsAt peers' place (load_edited w.before id deleted body r)) is w.at_then ∙ sym w.at)
         | inr f ↦ w.others n (eqb-false n place f)
       ]
-
-  edited_tied : AreTied peers → (r : Result (RevId × Option RevId) BaseFault) → edited w.before.db id parent deleted body ≡ r → AreTied peers'
-  edited_tied net (Ok e) is = wrote_tied peers place (edit_document id e deleted body) peers' (put_of e is) net
-  edited_tied net (Err why) is = same_tied peers peers' (none_of why is) net
-
-  pub edit_tied : AreTied peers → AreTied peers'
-  edit_tied net = edited_tied net (edited w.before.db id parent deleted body) refl
 
   edited_agree : EditFits peers place id parent deleted body → (at : Id) → (r : Result (RevId × Option RevId) BaseFault) → edited w.before.db id parent deleted body ≡ r → KeepsAgreement peers peers' at
   edited_agree fits at (Ok e) is =

@@ -1,5 +1,6 @@
 //! Replications in a network.
-ghost use Rattle.std.specs.Prelude.{◌≡◌, Bool, ◌≢◌, ◌<◌, ◌≤◌, length, OnOk, OnErr, slice_get};
+ghost use Rattle.std.specs.Prelude.{◌≡◌, ℕ, Bool, List, ◌≢◌, ◌<◌, ◌≤◌, length, OnOk, OnErr, slice_get};
+ghost use Rattle.repl_peer.specs.peer.Backups.{BackupValue};
 ghost use Rattle.repl_network.specs.Nets.{peers_of, filters_of, AreTied, IsNet, Spread, FitsIn, IsRootedAt, EditFits, KeepsAgreement};
 ghost use Rattle.repl_network.specs.Made.{StaysMade, StaysMadeByEdit, StaysMadeExcept};
 ghost use Rattle.repl_network.specs.Hopped.{Carried, Hopped, Ended, AllHopped, AllLawful, IsChangedAt};
@@ -36,7 +37,8 @@ pub fn replicate_along<F: WriteFilter>(
     ensures taken { TakesHops F.refuses 0 peers.old hops.now result peers.new }
     ensures filters { filters_of peers.new ≡ filters_of peers.old }
     ensures tied { AreTied (peers_of peers.old) → AreTied (peers_of peers.new) }
-    ensures net { IsNet (peers_of peers.old) → IsNet (peers_of peers.new) }
+    ensures net { (backups : List (ℕ × BackupValue)) → IsNet backups (peers_of peers.old)
+        → IsNet backups (peers_of peers.new) }
     ensures made { StaysMade (peers_of peers.old) (peers_of peers.new) }
     ensures spread { OnOk result
         (AreTied (peers_of peers.old) → Spread (peers_of peers.old) hops.now (peers_of peers.new)) }
@@ -65,7 +67,8 @@ pub fn load_at<F: WriteFilter>(
     ensures answer { AnswersAt (peers_of peers.old) place (λ p r. PutGives r (put_answer p.db doc.now)) result }
     ensures filters { filters_of peers.new ≡ filters_of peers.old }
     ensures tied { AreTied (peers_of peers.old) → AreTied (peers_of peers.new) }
-    ensures net { IsNet (peers_of peers.old) → IsNet (peers_of peers.new) }
+    ensures net { (backups : List (ℕ × BackupValue)) → IsNet backups (peers_of peers.old)
+        → IsNet backups (peers_of peers.new) }
     ensures ok { OnOk result (IsChangedAt place (λ p. after_load p doc.now) (peers_of peers.old) (peers_of peers.new)) }
     ensures err { OnErr result (peers_of peers.new ≡ peers_of peers.old) }
     ensures made { StaysMadeExcept doc.now.id (peers_of peers.old) (peers_of peers.new) }
@@ -99,7 +102,8 @@ pub fn edit_at<F: WriteFilter>(
         (λ p r. EditGives r (edit_answer p.db id.now parent deleted body.now)) result }
     ensures filters { filters_of peers.new ≡ filters_of peers.old }
     ensures tied { AreTied (peers_of peers.old) → AreTied (peers_of peers.new) }
-    ensures net { IsNet (peers_of peers.old) → IsNet (peers_of peers.new) }
+    ensures net { (backups : List (ℕ × BackupValue)) → IsNet backups (peers_of peers.old)
+        → IsNet backups (peers_of peers.new) }
     ensures ok { OnOk result
         (IsChangedAt place (λ p. after_edit p id.now parent deleted body.now) (peers_of peers.old) (peers_of peers.new)) }
     ensures err { OnErr result (peers_of peers.new ≡ peers_of peers.old) }
@@ -135,7 +139,8 @@ fn take_hop<F: WriteFilter>(
     ensures taken { TakesHop F.refuses at peers.old hop.now result peers.new }
     ensures filters { filters_of peers.new ≡ filters_of peers.old }
     ensures tied { AreTied (peers_of peers.old) → AreTied (peers_of peers.new) }
-    ensures net { IsNet (peers_of peers.old) → IsNet (peers_of peers.new) }
+    ensures net { (backups : List (ℕ × BackupValue)) → IsNet backups (peers_of peers.old)
+        → IsNet backups (peers_of peers.new) }
     ensures made { StaysMade (peers_of peers.old) (peers_of peers.new) }
     ensures ended { OnOk result (Ended (peers_of peers.old) hop.now (peers_of peers.new)) }
 {

@@ -1,5 +1,6 @@
 //! Replication through a hub, the first peer of a network.
-ghost use Rattle.std.specs.Prelude.{◌≡◌, ◌+◌, ◌++◌, length, IfOk, OnOk};
+ghost use Rattle.std.specs.Prelude.{◌≡◌, ℕ, List, ◌+◌, ◌++◌, length, IfOk, OnOk};
+ghost use Rattle.repl_peer.specs.peer.Backups.{BackupValue};
 ghost use Rattle.repl_network.specs.Nets.{peers_of, filters_of, AreTied, IsNet};
 ghost use Rattle.repl_network.specs.Made.{StaysMade};
 ghost use Rattle.repl_network.specs.Hubs.{gathers, spreads, HubSpread};
@@ -34,7 +35,8 @@ pub fn sync_by_hub<F: WriteFilter>(
     ensures taken { TakesHub F.refuses peers.old there.now back.now result peers.new }
     ensures filters { filters_of peers.new ≡ filters_of peers.old }
     ensures tied { AreTied (peers_of peers.old) → AreTied (peers_of peers.new) }
-    ensures net { IsNet (peers_of peers.old) → IsNet (peers_of peers.new) }
+    ensures net { (backups : List (ℕ × BackupValue)) → IsNet backups (peers_of peers.old)
+        → IsNet backups (peers_of peers.new) }
     ensures made { StaysMade (peers_of peers.old) (peers_of peers.new) }
     ensures same { OnOk result
         (AreTied (peers_of peers.old) → HubSpread (peers_of peers.old) there.now back.now (peers_of peers.new)) }

@@ -18,7 +18,7 @@ returns g c =
             at_of items c.args.target c.in-Some-peer.into.now into,
             c.in_ok-audit.ensures.answer,
           ));
-      clean = λ apart. c.in_ok-audit.ensures.tied (tied_two items c.args.source c.args.target c.in-Some.from.now c.in-Some-peer.into.now (option_copied c.args.chosen) c.law.ensures.net.tied from into apart);
+      clean = c.in_ok-audit.ensures.tied (tied_two items c.args.source c.args.target c.in-Some.from.now c.in-Some-peer.into.now (option_copied c.args.chosen) c.law.ensures.net from into);
     }
 
 pub returns-in_err-audit-clause-answer : goal.returns-in_err-audit-clause-answer

@@ -1,4 +1,4 @@
-use Rattle.proof_prelude.proofs.{◌≡◌, length, OnOk, sym, ap, ◌∙◌, subst, on_ok_weaker}
+use Rattle.proof_prelude.proofs.{◌≡◌, [], length, OnOk, sym, ap, ◌∙◌, subst, on_ok_weaker}
 use Rattle.repl_network.specs.{peers_of, filters_of, IsNet, Spread, StaysMade, TakesHops}
 use Rattle.repl_network.proofs.{whole_vector}
 use Rattle.repl_network.proofs.net.Net.replicate_along.Goals as goal
@@ -9,7 +9,7 @@ invariant_of-self g c =
     let new = c.replicate_along.new.peers in
     let len : length new ≡ c.self.inside.peers.len = search in
     let was : c.deref_mut.result.now ≡ items = search in
-    subst (λ ps. IsNet (peers_of ps)) (sym (whole_vector items new c.self.inside.peers.len len)) (c.replicate_along.ensures.net (subst (λ ps. IsNet (peers_of ps)) (sym was) c.self.invariant))
+    subst (λ ps. IsNet [] (peers_of ps)) (sym (whole_vector items new c.self.inside.peers.len len)) (c.replicate_along.ensures.net [] (subst (λ ps. IsNet [] (peers_of ps)) (sym was) c.self.invariant))
 
 pub returns : goal.returns
 returns g c =
@@ -28,5 +28,5 @@ returns g c =
       spread =
           subst (λ ps. OnOk c.replicate_along.result (Spread (peers_of c.args.self.now) c.args.hops.now (peers_of ps))) (sym (whole_vector items new c.self.inside.peers.len len))
           (subst (λ ps. OnOk c.replicate_along.result (Spread (peers_of ps) c.args.hops.now (peers_of new))) c.self.view_is
-          (on_ok_weaker c.replicate_along.result (λ spread. subst (λ ps. Spread (peers_of ps) c.args.hops.now (peers_of new)) was (spread (subst (λ ps. IsNet (peers_of ps)) (sym was) c.self.invariant).tied)) c.replicate_along.ensures.spread));
+          (on_ok_weaker c.replicate_along.result (λ spread. subst (λ ps. Spread (peers_of ps) c.args.hops.now (peers_of new)) was (spread (subst (λ ps. IsNet [] (peers_of ps)) (sym was) c.self.invariant).consistent)) c.replicate_along.ensures.spread));
     }

@@ -1,4 +1,4 @@
-use Rattle.proof_prelude.proofs.{◌≡◌, length, OnOk, sym, ap, ◌∙◌, subst, on_ok_weaker}
+use Rattle.proof_prelude.proofs.{◌≡◌, [], length, OnOk, sym, ap, ◌∙◌, subst, on_ok_weaker}
 use Rattle.repl_network.specs.{peers_of, filters_of, IsNet, HubSpread, StaysMade, TakesHub}
 use Rattle.repl_network.proofs.{whole_vector}
 use Rattle.repl_network.proofs.net.Net.sync_by_hub.Goals as goal
@@ -9,7 +9,7 @@ invariant_of-self g c =
     let new = c.sync_by_hub.new.peers in
     let len : length new ≡ c.self.inside.peers.len = search in
     let was : c.deref_mut.result.now ≡ items = search in
-    subst (λ ps. IsNet (peers_of ps)) (sym (whole_vector items new c.self.inside.peers.len len)) (c.sync_by_hub.ensures.net (subst (λ ps. IsNet (peers_of ps)) (sym was) c.self.invariant))
+    subst (λ ps. IsNet [] (peers_of ps)) (sym (whole_vector items new c.self.inside.peers.len len)) (c.sync_by_hub.ensures.net [] (subst (λ ps. IsNet [] (peers_of ps)) (sym was) c.self.invariant))
 
 pub returns : goal.returns
 returns g c =
@@ -28,5 +28,5 @@ returns g c =
       same =
           subst (λ ps. OnOk c.sync_by_hub.result (HubSpread (peers_of c.args.self.now) c.args.there.now c.args.back.now (peers_of ps))) (sym (whole_vector items new c.self.inside.peers.len len))
           (subst (λ ps. OnOk c.sync_by_hub.result (HubSpread (peers_of ps) c.args.there.now c.args.back.now (peers_of new))) c.self.view_is
-          (on_ok_weaker c.sync_by_hub.result (λ same. subst (λ ps. HubSpread (peers_of ps) c.args.there.now c.args.back.now (peers_of new)) was (same (subst (λ ps. IsNet (peers_of ps)) (sym was) c.self.invariant).tied)) c.sync_by_hub.ensures.same));
+          (on_ok_weaker c.sync_by_hub.result (λ same. subst (λ ps. HubSpread (peers_of ps) c.args.there.now c.args.back.now (peers_of new)) was (same (subst (λ ps. IsNet [] (peers_of ps)) (sym was) c.self.invariant).consistent)) c.sync_by_hub.ensures.same));
     }

@@ -1,0 +1,122 @@
+-- Defines networks of peers that have keys, and the steps of a network, as specified in docs/PROFILE.md, "Nets" and
+-- "Tied databases". A key is the index of a peer in a list, or the name of a database.
+use Rattle.std.specs.Prelude.{◌≡◌, ◌≢◌, ◌⊎◌, ℕ, Bool, List, [], Option, Some, None, Ok}
+use Rattle.doc_json.specs.Document.{Document}
+use Rattle.doc_json.specs.Chosen.{Choice}
+use Rattle.couch_base.specs.Lists.{Among}
+use Rattle.repl_log.specs.declared.replication.RepId.{RepId}
+use Rattle.repl_log.specs.Entry.{EntryValue}
+use Rattle.repl_peer.specs.peer.Peer.{PeerValue, SessionValue}
+use Rattle.repl_peer.specs.peer.Backups.{BackupValue, copy_of, restore_answer, restored}
+use Rattle.repl_peer.specs.peer.Later.{IsLaterPeer}
+use Rattle.repl_target.specs.declared.replication.Plan.{Plan}
+use Rattle.repl_target.specs.ties.Ties.{IsTiedWith}
+use Rattle.repl_target.specs.replication.Leaves.{Leaves}
+
+-- ---- the invariant
+
+-- One of the peers has the UUID `uuid`.
+abbrev pub IsHeldBy : {K : Type 0} → (K → Option PeerValue) → ℕ → Type 0
+IsHeldBy {K = K} peers uuid = (n : K) × (p : PeerValue) × (peers n ≡ Some p) × (p.db.uuid ≡ uuid)
+
+-- One of the peers has the UUID `uuid`, which is not `own`.
+abbrev pub IsOther : {K : Type 0} → (K → Option PeerValue) → ℕ → ℕ → Type 0
+IsOther peers own uuid = IsHeldBy peers uuid × (uuid ≡ own → ⊥)
+
+-- Each of the given logs of the peer with UUID `own` belongs to a replication into another peer.
+abbrev pub LeadToOthers : {K : Type 0} → (K → Option PeerValue) → ℕ → List (RepId × List EntryValue) → Type 0
+LeadToOthers peers own logs = (l : RepId × List EntryValue) → Among l logs → IsOther peers own l.0.target
+
+-- Each of the given sessions at the peer with UUID `own` belongs to a replication from another peer.
+abbrev pub ComeFromOthers : {K : Type 0} → (K → Option PeerValue) → ℕ → List SessionValue → Type 0
+ComeFromOthers peers own sessions = (s : SessionValue) → Among s sessions → IsOther peers own s.rep.source
+
+-- Backup b has the UUID of the peer with key n. Each log of b belongs to a replication into another peer.
+pub record IsCopyAt {K : Type 0} (peers : K → Option PeerValue) (n : K) (b : BackupValue) : Type 0 where
+  pub peer : PeerValue
+  pub there : peers n ≡ Some peer
+  pub uuid : b.db.uuid ≡ peer.db.uuid
+  pub logs : LeadToOthers peers peer.db.uuid b.outgoing
+
+-- Each element of the list `backups` is a backup of the peer with key n, as the relation `copy` says.
+abbrev pub AreCopiesAt : {K : Type 0} → (K → BackupValue → Type 0) → K → List BackupValue → Type 0
+AreCopiesAt copy n backups = (b : BackupValue) → Among b backups → copy n b
+
+-- The source p, which has key n, is consistent with the target q, and so is each backup of p.
+abbrev pub AreTiedAt : {K : Type 0} → (K → BackupValue → Type 0) → K → PeerValue → PeerValue → Choice → Type 0
+AreTiedAt copy n p q chosen = (backups : List BackupValue) → AreCopiesAt copy n backups → IsTiedWith backups p q chosen
+
+-- For every selection, every two peers with different keys are consistent in both directions, with their backups. No
+-- two keys have peers with the same UUID.
+pub record AreConsistent {K : Type 0} (peers : K → Option PeerValue) (copy : K → BackupValue → Type 0) : Type 0 where
+  pub apart : (m n : K) (p q : PeerValue) → peers m ≡ Some p → peers n ≡ Some q → p.db.uuid ≡ q.db.uuid → m ≡ n
+  pub tied : (m n : K) (p q : PeerValue) → peers m ≡ Some p → peers n ≡ Some q → m ≢ n → (chosen : Choice)
+      → AreTiedAt copy m p q chosen
+
+-- The invariant of a network. The peers are consistent. Each backup is a backup of the peer with the backup's key. All
+-- sessions and logs belong to replications between two different peers of the network.
+pub record IsNetwork {K : Type 0} (peers : K → Option PeerValue) (copy : K → BackupValue → Type 0) : Type 0 where
+  pub consistent : AreConsistent peers copy
+  pub copies : (n : K) (b : BackupValue) → copy n b → IsCopyAt peers n b
+  pub logs : (n : K) (p : PeerValue) → peers n ≡ Some p → LeadToOthers peers p.db.uuid p.outgoing
+  pub sessions : (n : K) (p : PeerValue) → peers n ≡ Some p → ComeFromOthers peers p.db.uuid p.sessions
+
+-- ---- steps
+
+-- The peer with key n was p and is p'. No other peer has changed.
+pub record Becomes {K : Type 0} (peers : K → Option PeerValue) (n : K) (p p' : PeerValue) (peers' : K → Option PeerValue)
+    : Type 0 where
+  pub was : peers n ≡ Some p
+  pub now : peers' n ≡ Some p'
+  pub others : (k : K) → k ≢ n → peers' k ≡ peers k
+
+-- Local writes have changed peer p to peer p'. The logs and the sessions of the peer are unchanged.
+pub record Writes (p p' : PeerValue) : Type 0 where
+  pub later : IsLaterPeer p p'
+  pub logs : p'.outgoing ≡ p.outgoing
+  pub sessions : p'.sessions ≡ p.sessions
+
+-- A replication, by one thread or by the pool, has changed the peers with the keys m and n. No other peer has changed.
+pub record IsReplicated {K : Type 0} (peers : K → Option PeerValue) (m n : K) (peers' : K → Option PeerValue) : Type 0
+  where
+    pub refuses : Document → Bool
+    pub plan : Plan
+    pub source : PeerValue
+    pub target : PeerValue
+    pub source_then : PeerValue
+    pub target_then : PeerValue
+    pub two : m ≢ n
+    pub from : peers m ≡ Some source
+    pub to : peers n ≡ Some target
+    pub from_then : peers' m ≡ Some source_then
+    pub to_then : peers' n ≡ Some target_then
+    pub others : (k : K) → k ≢ m → k ≢ n → peers' k ≡ peers k
+    pub leaves : Leaves refuses source target plan source_then target_then
+    pub later : IsLaterPeer target target_then
+
+-- The peer x was added under the key n. The added peer has neither sessions nor logs, and no other peer has the UUID of
+-- the added peer.
+pub record IsAdded {K : Type 0} (peers : K → Option PeerValue) (n : K) (x : PeerValue) (peers' : K → Option PeerValue)
+    : Type 0 where
+  pub free : peers n ≡ None
+  pub now : peers' n ≡ Some x
+  pub others : (k : K) → k ≢ n → peers' k ≡ peers k
+  pub fresh : IsHeldBy peers x.db.uuid → ⊥
+  pub sessions : x.sessions ≡ []
+  pub logs : x.outgoing ≡ []
+
+-- A step of a network: a local write, a replication, a backup, a restore, or a new peer. `copy'` says which backups the
+-- network has after the step.
+pub data Step {K : Type 0} (peers : K → Option PeerValue) (copy : K → BackupValue → Type 0)
+    (peers' : K → Option PeerValue) (copy' : K → BackupValue → Type 0) : Type 0 where
+  Written : (n : K) (p p' : PeerValue) → Becomes peers n p p' peers' → Writes p p'
+      → ((k : K) (b : BackupValue) → copy' k b → copy k b) → Step peers copy peers' copy'
+  Replicated : (m n : K) → IsReplicated peers m n peers' → ((k : K) (b : BackupValue) → copy' k b → copy k b)
+      → Step peers copy peers' copy'
+  BackedUp : (n : K) (p : PeerValue) → peers n ≡ Some p → peers' ≡ peers
+      → ((k : K) (b : BackupValue) → copy' k b → copy k b ⊎ (k ≡ n) × (b ≡ copy_of p)) → Step peers copy peers' copy'
+  Restored : (n : K) (p : PeerValue) (b : BackupValue) → copy n b → restore_answer p b ≡ Ok tt
+      → Becomes peers n p (restored p b) peers' → ((k : K) (c : BackupValue) → copy' k c → copy k c)
+      → Step peers copy peers' copy'
+  Added : (n : K) (x : PeerValue) → IsAdded peers n x peers' → ((k : K) (b : BackupValue) → copy' k b → copy k b)
+      → Step peers copy peers' copy'
