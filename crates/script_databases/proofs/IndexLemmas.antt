@@ -1,10 +1,9 @@
 -- The index of the databases' UUIDs.
 use Rattle.proof_prelude.proofs.{◌≡◌, ℕ, Bool, true, false, cond, List, [], refl, sym, ap, ◌∙◌, Option, Some, None, nat_eq, option_map, list_any, Equal-is, eq_by_cmp, is_eq, lookup, get, get-insert, get-empty, nat_list_cmp_total, tied_itself, is_text, same_Some, none-some, true≢false, eqb-true, eq-eqb}
 use Rattle.std.specs.FinMap.{insert}
-use Rattle.rev_core.specs.{RevId}
 use Rattle.doc_json.specs.Document.{Document}
-use Rattle.repl_peer.specs.{PeerValue, after_edit, after_load}
-use Rattle.repl_peer.proofs.{edit_later, load_later}
+use Rattle.repl_peer.specs.{PeerValue, after_load}
+use Rattle.repl_peer.proofs.{load_later}
 use Rattle.script_databases.specs.{State, peer_at, with_peer, IsTaken, text_cmp, Beside, Entries, peers_of, state_of, IsIndex, AllDeny, denied_of}
 use Rattle.script_databases.proofs.TableLemmas.{text_cmp-IsAntisymmetric, get-by_text}
 
@@ -93,13 +92,10 @@ index_written old new name l m uuids index there is e = record {
       (λ same. index.taken u (t.0, t.1, sym same ∙ found, t.3));
 }
 
--- ---- loads and edits do not change the UUID
+-- ---- a load does not change the UUID
 
 pub load_keeps : (d : Document) (l : PeerValue) → (after_load l d).db.uuid ≡ l.db.uuid
 load_keeps d l = (load_later l d).db.uuid
-
-pub edit_keeps : (id : List ℕ) (parent : Option RevId) (deleted : Bool) (body : List ℕ) (l : PeerValue) → (after_edit l id parent deleted body).db.uuid ≡ l.db.uuid
-edit_keeps id parent deleted body l = (edit_later l id parent deleted body).db.uuid
 
 -- ---- the filters of the peers
 

@@ -1,5 +1,5 @@
 -- Changes of one named database.
-use Rattle.proof_prelude.proofs.{◌≡◌, ◌⊎◌, inl, inr, ℕ, List, refl, sym, ap, ◌∙◌, Some, None, Result, Ok, Err, OnErr, String, string_bytes, FinMap, get, UpdatesBy, lookup, bytes_eq, is_text, string_eq}
+use Rattle.proof_prelude.proofs.{◌≡◌, ◌⊎◌, inl, inr, ℕ, List, refl, sym, ap, subst, ◌∙◌, Some, None, Result, Ok, Err, OnErr, String, string_bytes, FinMap, get, UpdatesBy, lookup, bytes_eq, is_text, string_eq, MatchResult-at_ok}
 use Rattle.std.specs.declared.alloc.Global.{Global}
 use Rattle.std.specs.FinMap.{insert}
 use Rattle.std.specs.HashMap.{HashMap}
@@ -8,9 +8,12 @@ use Rattle.couch_base.specs.{EditGives, PutGives, BaseFault}
 use Rattle.couch_base.specs.declared.fault.BaseFault.TheVariants as base
 use Rattle.couch_base.specs.declared.fault.Put.{Put}
 use Rattle.repl_peer.specs.{PeerValue, Rules}
-use Rattle.script_databases.specs.{told_as, base_refusal, text_cmp, peer_at, with_changed, changed_at, edited_as, AllDeny, Beside, Entries, IsIndex, deny_of, denied_of, peers_of, state_of}
+use Rattle.script_databases.specs.{told_as, base_refusal, text_cmp, peer_at, with_changed, changed_at, edited_as, AllDeny, Beside, Entries, IsConsistent, IsIndex, deny_of, denied_of, peers_of, state_of, with_peer}
+use Rattle.script_databases.specs.declared.refusal.Refusal.{Refusal}
 use Rattle.script_databases.specs.declared.refusal.Refusal.TheVariants as why
 use Rattle.script_databases.proofs.IndexLemmas.{deny_kept, index_written, state_at, state_with}
+use Rattle.repl_network.specs.{Writes}
+use Rattle.script_databases.proofs.Networks.{written_step}
 use Rattle.script_databases.proofs.TableLemmas.{found_absent, found_there, insert-same, none_there, written}
 
 -- an error of the database is reported by its name
@@ -21,6 +24,10 @@ put_refused fault expected h = inl (ap (told_as base_refusal) (sym h))
 pub edit_refused : (after : PeerValue) (fault : BaseFault) (expected : Result RevId BaseFault) → EditGives (Err fault) expected → (edited_as after expected ≡ Err (base_refusal fault)) ⊎ (base_refusal fault ≡ why.Memory)
 edit_refused after base.Memory expected h = inr refl
 edit_refused after fault expected h = inl (ap (edited_as after) (sym h))
+
+-- two equal successful results have equal values
+pub same_Ok : {A : Type 0} (x y : A) → ◌≡◌ {A = Result A Refusal} (Ok x) (Ok y) → x ≡ y
+same_Ok x y e = MatchResult-at_ok {r = Ok x} (λ z. x ≡ z) (λ _. ⊥) y e refl
 
 -- replacing a value by an equal one changes nothing
 kept_there : {V : Type 0} (old new : FinMap text_cmp V) (name : List ℕ) (l u : V) → get old name ≡ Some l → new ≡ insert old name u → u ≡ l → new ≡ old
@@ -60,12 +67,18 @@ module _ {S : Type 0} (g : Beside) (old new : HashMap (String Global) (Rules × 
   pub state_stays : u.1 ≡ l.1 → state_of g new.entries ≡ state_of g old.entries
   state_stays same = state_at g old.entries new.entries (kept_there (peers_of old.entries) (peers_of new.entries) name l.1 u.1 was peers_are same)
 
-  -- with the same UUID the index is unchanged, and with the same filter all filters
-  pub tables_stay : (uuids : List ℕ) → u.1.db.uuid ≡ l.1.db.uuid → u.0 ≡ l.0 → IsIndex (state_of g old.entries) uuids × AllDeny g.program.deny old.entries
-      → IsIndex (state_of g new.entries) uuids × AllDeny g.program.deny new.entries
-  tables_stay uuids uuid filter kept = (
+  -- with the same UUID the index is unchanged, with the same filter all filters, and after a step all are consistent
+  pub tables_stay : (uuids : List ℕ) → u.1.db.uuid ≡ l.1.db.uuid → u.0 ≡ l.0 → (IsConsistent (state_of g old.entries) → IsConsistent (with_peer (state_of g old.entries) name u.1)) → IsIndex (state_of g old.entries) uuids × AllDeny g.program.deny old.entries × IsConsistent (state_of g old.entries)
+      → IsIndex (state_of g new.entries) uuids × AllDeny g.program.deny new.entries × IsConsistent (state_of g new.entries)
+  tables_stay uuids uuid filter step kept = (
     index_written (state_of g old.entries) (state_of g new.entries) name l.1 u.1 uuids kept.0 was (state_with g old.entries new.entries name u.1 peers_are) uuid,
     deny_kept g.program.deny old.entries new.entries kept.1
         (kept_there (denied_of old.entries) (denied_of new.entries) name (deny_of l.0) (deny_of u.0) (found_there (λ p. deny_of p.0) old.entries name name l refl there)
         (written (λ p. deny_of p.0) old new name name u refl updates) (ap deny_of filter)),
+    subst IsConsistent (sym (state_with g old.entries new.entries name u.1 peers_are)) (step kept.2),
   )
+
+  -- so it is after a local write
+  pub tables_written : (uuids : List ℕ) → Writes l.1 u.1 → u.0 ≡ l.0 → IsIndex (state_of g old.entries) uuids × AllDeny g.program.deny old.entries × IsConsistent (state_of g old.entries)
+      → IsIndex (state_of g new.entries) uuids × AllDeny g.program.deny new.entries × IsConsistent (state_of g new.entries)
+  tables_written uuids w filter kept = tables_stay uuids w.later.db.uuid filter (λ h. written_step (state_of g old.entries) h name l.1 u.1 was w) kept

@@ -2,7 +2,7 @@
 ghost use Rattle.std.specs.Prelude.{◌≡◌, [], false, true, None, IfOk, OnErr, OnOk, option_map};
 ghost use Rattle.std.specs.FinMap.{contains_key};
 ghost use Rattle.std.specs.Option.{option_copied};
-ghost use Rattle.script_databases.specs.AllTied.{AllTied, CoversUpTo};
+ghost use Rattle.script_databases.specs.Consistent.{CoversUpTo, IsConsistent};
 ghost use Rattle.script_databases.specs.Databases.{State, coded_state};
 ghost use Rattle.script_databases.specs.Stored.{IsIndex, AllDeny, beside_of, program_of, state_of};
 
@@ -41,7 +41,8 @@ pub struct PutBack {
 pub type Names = IndexMap<String, Peer<Rules>>;
 
 /// The databases of a script: peers by name, an index of their UUIDs, and the number of generated ids. All peers have
-/// the write filter from the settings.
+/// the write filter from the settings. All databases are consistent with each other after every call, even if the call
+/// fails (`law`).
 pub struct Databases {
     settings: Settings,
     by_name: Names,
@@ -74,7 +75,8 @@ impl Model for Databases {
     ghost view = { λ a. state_of (beside_of a.settings a.drawn a.backups) a.by_name.entries };
 
     ghost invariant = { λ a. IsIndex (state_of (beside_of a.settings a.drawn a.backups) a.by_name.entries) a.uuids.keys
-        × AllDeny (program_of a.settings).deny a.by_name.entries };
+        × AllDeny (program_of a.settings).deny a.by_name.entries
+        × IsConsistent (state_of (beside_of a.settings a.drawn a.backups) a.by_name.entries) };
 }
 
 impl Databases {
@@ -84,11 +86,9 @@ impl Databases {
     ghost use Rattle.script_databases.specs.Refusals.{GivesOrMemory};
     ghost use Rattle.script_databases.specs.Replications.{ReplicatesAlone, ReplicatesBetween, ReplicatesByPool, ReplicatesWatched};
 
-    /// Creates an empty set of databases, with a copy of the settings. The empty set of databases is consistent
-    /// (`AllTied`).
+    /// Creates an empty set of databases, with a copy of the settings.
     pub fn new(alloc: Global, settings: &Settings) -> Result<Databases, AllocError>
         ensures none { IfOk result (λ databases. databases ≡ no_databases (program_of settings.now)) }
-        ensures tied { IfOk result (λ databases. AllTied databases) }
     {
         let settings = settings.copy(alloc)?;
         Ok(Databases {
@@ -98,6 +98,14 @@ impl Databases {
             drawn: 0,
             backups: Backups::new(alloc),
         })
+    }
+
+    /// Has no effect at run time, but gives proofs the invariant of the databases: all databases are consistent with each
+    /// other (docs/PROFILE.md, "Tied databases").
+    pub fn law(&self)
+        ensures { IsConsistent self.now }
+    {
+        let _ = &self.drawn;
     }
 
     /// Returns the settings of the program.
@@ -133,7 +141,6 @@ impl Databases {
     pub fn draw(&mut self) -> u128
         ensures id { result ≡ next_made self.old }
         ensures drawn { self.new ≡ drawn_one self.old }
-        ensures tied { AllTied self.old → AllTied self.new }
     {
         let mut ids = MadeIds {
             seed: self.settings.seed,
@@ -155,17 +162,15 @@ impl Databases {
         Ok(Peer::new(alloc, uuid, Rules { deny }))
     }
 
-    /// Adds a peer under an unused name. The peer must have the filter from the settings.
-    ///
-    /// All databases stay consistent if the added peer has no sessions and no logs, and no other database has the
-    /// peer's UUID.
+    /// Adds a peer under an unused name. The peer must have the filter from the settings, no sessions, no logs, and a
+    /// UUID that no database has.
     pub fn add(&mut self, alloc: Global, name: &str, peer: Peer<Rules>) -> Result<(), AllocError>
         requires absent { peer_at self.old name.now ≡ None }
         requires filter { deny_of peer.0 ≡ self.old.program.deny }
+        requires fresh { IsTaken self.old peer.1.db.uuid → ⊥ }
+        requires unused { (peer.1.sessions ≡ []) × (peer.1.outgoing ≡ []) }
         ensures ok { OnOk result (self.new ≡ with_peer self.old name.now peer.1) }
         ensures err { OnErr result (self.new ≡ self.old) }
-        ensures tied { (IsTaken self.old peer.1.db.uuid → ⊥) → peer.1.sessions ≡ [] → peer.1.outgoing ≡ []
-            → AllTied self.old → AllTied self.new }
     {
         let key = String::from_str(alloc, name)?;
         let uuid = peer.db().uuid();
@@ -184,7 +189,6 @@ impl Databases {
         ensures answer { GivesOrMemory result (load_answer (peer_at self.old name.now) doc.now) }
         ensures ok { OnOk result (self.new ≡ loaded_at self.old name.now doc.now) }
         ensures err { OnErr result (self.new ≡ self.old) }
-        ensures tied { AllTied self.old → AllTied self.new }
     {
         let Some(peer) = self.by_name.get_mut(name) else {
             return Err(Refusal::NoDatabase);
@@ -210,7 +214,6 @@ impl Databases {
             (edited_answer (peer_at self.old name.now) id.now parent deleted body.now) }
         ensures ok { OnOk result (self.new ≡ edited_at self.old name.now id.now parent deleted body.now) }
         ensures err { OnErr result (self.new ≡ self.old) }
-        ensures tied { AllTied self.old → AllTied self.new }
     {
         let Some(peer) = self.by_name.get_mut(name) else {
             return Err(Refusal::NoDatabase);
@@ -231,7 +234,6 @@ impl Databases {
         ensures answer { GivesOrMemory result (backed_told (backed_answer self.old db.now name.now)) }
         ensures ok { OnOk result (self.new ≡ backed_at self.old db.now name.now) }
         ensures err { OnErr result (self.new ≡ self.old) }
-        ensures tied { AllTied self.old → AllTied self.new }
     {
         let Some(peer) = self.by_name.get(db) else {
             return Err(Refusal::NoDatabase);
@@ -262,7 +264,6 @@ impl Databases {
             (put_back_answer (peer_at self.old db.now) (backup_at self.old db.now name.now)) }
         ensures ok { OnOk result (self.new ≡ put_back_by self.old db.now (backup_at self.old db.now name.now)) }
         ensures err { OnErr result (self.new ≡ self.old) }
-        ensures tied { AllTied self.old → AllTied self.new }
     {
         let alloc = *self.by_name.allocator();
         let key = BackupName::new(alloc, db, name)?;
@@ -293,9 +294,8 @@ impl Databases {
         requires source { contains_key self.old.peers source.now ≡ true }
         requires target { contains_key self.old.peers target.now ≡ true }
         ensures between { ReplicatesBetween ReplicatesByPool self.old source.now target.now plan.now result self.new }
-        ensures tied { AllTied self.old → AllTied self.new }
-        ensures covered { IfOk result (λ report. AllTied self.old
-            → CoversUpTo self.new source.now target.now plan.now.chosen report.recorded) }
+        ensures covered { IfOk result
+            (λ report. CoversUpTo self.new source.now target.now plan.now.chosen report.recorded) }
     {
         let (sender, receiver) = find_both(&self.by_name, source, target);
         receiver.law();
@@ -330,9 +330,8 @@ impl Databases {
         requires source { contains_key self.old.peers source.now ≡ true }
         requires target { contains_key self.old.peers target.now ≡ true }
         ensures between { ReplicatesBetween ReplicatesWatched self.old source.now target.now plan.now result self.new }
-        ensures tied { AllTied self.old → AllTied self.new }
-        ensures covered { IfOk result (λ watched. AllTied self.old
-            → CoversUpTo self.new source.now target.now plan.now.chosen watched.report.recorded) }
+        ensures covered { IfOk result
+            (λ watched. CoversUpTo self.new source.now target.now plan.now.chosen watched.report.recorded) }
     {
         let (sender, receiver) = find_both(&self.by_name, source, target);
         receiver.law();
@@ -368,9 +367,8 @@ impl Databases {
         requires source { contains_key self.old.peers source.now ≡ true }
         requires target { contains_key self.old.peers target.now ≡ true }
         ensures between { ReplicatesBetween ReplicatesAlone self.old source.now target.now plan.now result self.new }
-        ensures tied { AllTied self.old → AllTied self.new }
-        ensures covered { IfOk result (λ report. AllTied self.old
-            → CoversUpTo self.new source.now target.now plan.now.chosen report.recorded) }
+        ensures covered { IfOk result
+            (λ report. CoversUpTo self.new source.now target.now plan.now.chosen report.recorded) }
     {
         let (sender, receiver) = find_both(&self.by_name, source, target);
         check_peers(sender, receiver, plan)?;

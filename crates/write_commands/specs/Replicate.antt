@@ -12,7 +12,7 @@ use Rattle.repl_peer.specs.declared.fault.Report.{Report}
 use Rattle.repl_peer.specs.declared.fault.TargetFault.{TargetFault}
 use Rattle.repl_target.specs.declared.replication.Plan.{Plan}
 use Rattle.script_engine.specs.Serving.{Told, Answering}
-use Rattle.script_databases.specs.AllTied.{CoversUpTo}
+use Rattle.script_databases.specs.Consistent.{CoversUpTo}
 use Rattle.script_databases.specs.Replications.{ReplicatesAlone, ReplicatesByPool, ReplicatesWatched}
 use Rattle.script_databases.specs.Databases.{Program, State, drawn_one, next_made}
 use Rattle.script_databases.specs.Refusals.{GivesOrMemory, name_of, run_stop_of, stop_of}

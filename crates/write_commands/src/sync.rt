@@ -90,6 +90,7 @@ impl<'v, 'a> Command<&'v Line<'a>> for BothWays<'v, 'a> {
         answer: &mut Vec<u8>,
     ) -> Result<(), Refusal> {
         serve_replication(rt, alloc, databases, &self.there, answer)?;
+        databases.law();
         let mut behind = Vec::new(alloc);
         serve_replication(rt, alloc, databases, &self.back, &mut behind)?;
         answer.extend_from_slice(behind.as_slice())?;

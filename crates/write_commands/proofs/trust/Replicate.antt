@@ -1,4 +1,5 @@
--- `replicate` keeps all databases tied, and a session that reached its goal covers the source's selected feed.
+-- A session of `replicate` that reached its goal covers the source's selected feed, and a failed `replicate` has an
+-- expected error.
 use Rattle.proof_prelude.proofs.{◌≡◌, ◌⊎◌, inl, inr, ℕ, Bool, true, false, List, Option, Some, None, Result, Ok, Err, is_ok, IfOk, IfErr, refl, sym, ap, subst, ◌∙◌, true≢false}
 use Rattle.rev_tree.specs.{SessionId}
 use Rattle.doc_json.specs.{Choice}
@@ -9,8 +10,7 @@ use Rattle.repl_pool.specs.{IsExpectedRun}
 use Rattle.repl_target.specs.{Plan, IsExpected}
 use Rattle.repl_peer.specs.declared.fault.TargetFault.TheVariants as faults
 use Rattle.script_engine.specs.{Told}
-use Rattle.script_databases.specs.AllTied.{AllTied}
-use Rattle.script_databases.specs.{CoversUpTo, State, peer_at, GivesOrMemory, name_of, run_stop_of, stop_of, unwatched, ReplicatesAlone, ReplicatesByPool, ReplicatesWatched, Refusal, Watched}
+use Rattle.script_databases.specs.{CoversUpTo, IsConsistent, State, peer_at, GivesOrMemory, name_of, run_stop_of, stop_of, unwatched, ReplicatesAlone, ReplicatesByPool, ReplicatesWatched, Refusal, Watched}
 use Rattle.script_databases.specs.declared.refusal.Refusal.TheVariants as why
 use Rattle.rev_core.specs.{◌>>=◌, or_refused}
 use Rattle.command_api.specs.{choice_given, database_of, told_of}
@@ -18,15 +18,15 @@ use Rattle.write_commands.specs.{EndsBy, Fails, FailsAlone, FailsInPool, MayFail
 use Rattle.write_commands.specs.declared.replicate.Options.{Options}
 use Rattle.write_commands.specs.declared.replicate.Ending.TheVariants.{Stopped}
 use Rattle.script_databases.specs.{Nowhere}
-use Rattle.script_databases.proofs.{same_Ok, drawn_tied, alone_fails, alone_left, pool_fails, pool_left, watched_fails, watched_left}
+use Rattle.script_databases.proofs.{same_Ok, alone_fails, alone_covers, pool_fails, pool_covers, watched_fails, watched_covers}
 use Rattle.write_commands.proofs.ReplicateLemmas.{same_peer}
 use Rattle.command_api.proofs.{bound, found}
 
 -- ---- an id is drawn, or not
 
-with_drawn_tied : (s : State) (given : Option ℕ) → AllTied s → AllTied (with_drawn s given)
-with_drawn_tied s (Some session) h = h
-with_drawn_tied s None h = drawn_tied s h
+with_drawn_same : (s : State) (given : Option ℕ) → IsConsistent s → IsConsistent (with_drawn s given)
+with_drawn_same s (Some session) h = h
+with_drawn_same s None h = h
 
 -- ---- how it ended
 
@@ -50,17 +50,14 @@ module _ (new : State) (a b : List ℕ) (c : Choice) where
   watched_ends (Ok watched) h = h
   watched_ends (Err fault) h = stopped_covers (run_stop_of fault)
 
-ends_tied : (alone progress : Bool) (old : State) → AllTied old → (a b : List ℕ) (s t : PeerValue) → peer_at old a ≡ Some s → peer_at old b ≡ Some t → (plan : Plan) (ending : Result Ending Refusal) (new : State) → EndsBy alone progress old a b s t plan ending new
-    → AllTied new × Covers new a b plan.chosen ending
-ends_tied true progress old h a b s t at_s at_t plan ending new (result, ran, is) =
-    let left = alone_left old h a b s t at_s at_t plan result new ran in
-    (left.0, subst (Covers new a b plan.chosen) (sym is) (alone_ends new a b plan.chosen result left.1))
-ends_tied false true old h a b s t at_s at_t plan ending new (result, ran, is) =
-    let left = watched_left old h a b s t at_s at_t plan result new ran in
-    (left.0, subst (Covers new a b plan.chosen) (sym is) (watched_ends new a b plan.chosen result left.1))
-ends_tied false false old h a b s t at_s at_t plan ending new (result, ran, is) =
-    let left = pool_left old h a b s t at_s at_t plan result new ran in
-    (left.0, subst (Covers new a b plan.chosen) (sym is) (run_ends new a b plan.chosen result left.1))
+ends_cover : (alone progress : Bool) (old : State) → IsConsistent old → (a b : List ℕ) (s t : PeerValue) → peer_at old a ≡ Some s → peer_at old b ≡ Some t → (plan : Plan) (ending : Result Ending Refusal) (new : State) → EndsBy alone progress old a b s t plan ending new
+    → Covers new a b plan.chosen ending
+ends_cover true progress old h a b s t at_s at_t plan ending new (result, ran, is) =
+    subst (Covers new a b plan.chosen) (sym is) (alone_ends new a b plan.chosen result (alone_covers old h a b s t at_s at_t plan result new ran))
+ends_cover false true old h a b s t at_s at_t plan ending new (result, ran, is) =
+    subst (Covers new a b plan.chosen) (sym is) (watched_ends new a b plan.chosen result (watched_covers old h a b s t at_s at_t plan result new ran))
+ends_cover false false old h a b s t at_s at_t plan ending new (result, ran, is) =
+    subst (Covers new a b plan.chosen) (sym is) (run_ends new a b plan.chosen result (pool_covers old h a b s t at_s at_t plan result new ran))
 
 -- ---- how it failed, or stopped
 
@@ -118,7 +115,7 @@ pool_stops : (options : Options) → options.alone ≡ false → (ending : Endin
 pool_stops options other (Stopped low_water) = λ alone. absurd (true≢false (sym alone ∙ other))
 pool_stops options other ending = tt
 
-module _ (old : State) (h : AllTied old) (a b : List ℕ) (s t : PeerValue) (at_s : peer_at old a ≡ Some s) (at_t : peer_at old b ≡ Some t) (plan : Plan) (new : State) where
+module _ (old : State) (h : IsConsistent old) (a b : List ℕ) (s t : PeerValue) (at_s : peer_at old a ≡ Some s) (at_t : peer_at old b ≡ Some t) (plan : Plan) (new : State) where
   alone_ended : (result : Result Report TargetFault) → ReplicatesAlone old a b s t plan result new → IfErr (ending_of result) FailsAlone
   alone_ended (Ok report) ran = tt
   alone_ended (Err fault) ran = alone_refusal s t plan fault (alone_fails old h a b s t at_s at_t plan (Err fault) new ran)
@@ -166,22 +163,21 @@ choice_fails : (ask : ReplicateAsk) (refusal : Refusal) → (choice_given ask.do
 choice_fails ask refusal (inl invalid) = inr (inr (inl invalid))
 choice_fails ask refusal (inr none) = subst (MayFail ask) (sym none) (may_memory ask)
 
-chosen_tied : (old new : State) → AllTied old → (ask : ReplicateAsk) (s t : PeerValue) → peer_at old ask.source ≡ Some s → peer_at old ask.target ≡ Some t → (chosen : Result Choice Refusal) (told : Told) → GivesOrMemory chosen (choice_given ask.doc_ids) → ReplicatesChosen old ask (s, t) chosen told new
-    → AllTied new × IsCovered new ask told
-chosen_tied old new h ask s t at_s at_t (Err refusal) told gives d = (subst AllTied (sym d.1) (with_drawn_tied old ask.options.session h), refused_covered new ask told refusal d.0 (choice_fails ask refusal gives))
-chosen_tied old new h ask s t at_s at_t (Ok c) told gives (inl d) = (subst AllTied (sym d.1.1) (with_drawn_tied old ask.options.session h), refused_covered new ask told why.BadMoment d.1.0 (inr (inl refl)))
-chosen_tied old new h ask s t at_s at_t (Ok c) told gives (inr (late, ending, ends, is)) =
+chosen_covered : (old new : State) → IsConsistent old → (ask : ReplicateAsk) (s t : PeerValue) → peer_at old ask.source ≡ Some s → peer_at old ask.target ≡ Some t → (chosen : Result Choice Refusal) (told : Told) → GivesOrMemory chosen (choice_given ask.doc_ids) → ReplicatesChosen old ask (s, t) chosen told new
+    → IsCovered new ask told
+chosen_covered old new h ask s t at_s at_t (Err refusal) told gives d = refused_covered new ask told refusal d.0 (choice_fails ask refusal gives)
+chosen_covered old new h ask s t at_s at_t (Ok c) told gives (inl d) = refused_covered new ask told why.BadMoment d.1.0 (inr (inl refl))
+chosen_covered old new h ask s t at_s at_t (Ok c) told gives (inr (late, ending, ends, is)) =
     let mid = with_session old ask.options in
-    let tied = with_drawn_tied old ask.options.session h in
+    let same = with_drawn_same old ask.options.session h in
     let at_s' = same_peer old ask.options.session ask.source ∙ at_s in
     let at_t' = same_peer old ask.options.session ask.target ∙ at_t in
     let plan = plan_of old ask.options c in
-    let k = ends_tied ask.options.alone ask.options.progress mid tied ask.source ask.target s t at_s' at_t' plan ending new ends in
     let told_as : IsToldAs ask.options ending = (
-      ends_as mid tied ask.source ask.target s t at_s' at_t' plan new ask.options.alone ask.options.progress ending ends,
-      stops_as mid tied ask.source ask.target s t at_s' at_t' plan new ask.options refl ask.options.alone refl ending ends,
+      ends_as mid same ask.source ask.target s t at_s' at_t' plan new ask.options.alone ask.options.progress ending ends,
+      stops_as mid same ask.source ask.target s t at_s' at_t' plan new ask.options refl ask.options.alone refl ending ends,
     ) in
-    (k.0, subst (IsCovered new ask) (sym is) (tells new ask plan.session c ending gives k.1 told_as))
+    subst (IsCovered new ask) (sym is) (tells new ask plan.session c ending gives (ends_cover ask.options.alone ask.options.progress mid same ask.source ask.target s t at_s' at_t' plan ending new ends) told_as)
 
 -- two databases are found, or one does not exist
 abbrev pair_of : Option PeerValue → Option PeerValue → Result (PeerValue × PeerValue) Refusal
@@ -198,13 +194,12 @@ absent None t refusal e = sym (why_is why.NoDatabase refusal e)
 absent (Some s) None refusal e = sym (why_is why.NoDatabase refusal e)
 absent (Some s) (Some t) refusal e = absurd (true≢false (ap is_ok e))
 
-pub reports_tied : (old new : State) → AllTied old → (ask : ReplicateAsk) (told : Told) (both : Result (PeerValue × PeerValue) Refusal) → both_of old ask ≡ both → ReplicatesFound old ask both told new → AllTied new × IsCovered new ask told
-reports_tied old new h ask told (Err refusal) e d =
-    (subst AllTied (sym d.1) h, refused_covered new ask told refusal d.0 (inl (absent (peer_at old ask.source) (peer_at old ask.target) refusal e)))
-reports_tied old new h ask told (Ok both) e d =
+pub reports_covered : (old new : State) → IsConsistent old → (ask : ReplicateAsk) (told : Told) (both : Result (PeerValue × PeerValue) Refusal) → both_of old ask ≡ both → ReplicatesFound old ask both told new → IsCovered new ask told
+reports_covered old new h ask told (Err refusal) e d = refused_covered new ask told refusal d.0 (inl (absent (peer_at old ask.source) (peer_at old ask.target) refusal e))
+reports_covered old new h ask told (Ok both) e d =
     let k1 = bound (database_of old ask.source) _ both e in
     let k2 = bound (database_of old ask.target) _ both k1.2 in
     let is : (k1.0, k2.0) ≡ both = same_Ok _ both k2.2 in
     let at_s : peer_at old ask.source ≡ Some both.0 = found old ask.source k1.0 k1.1 ∙ ap (λ (x : PeerValue × PeerValue). Some x.0) is in
     let at_t : peer_at old ask.target ≡ Some both.1 = found old ask.target k2.0 k2.1 ∙ ap (λ (x : PeerValue × PeerValue). Some x.1) is in
-    chosen_tied old new h ask both.0 both.1 at_s at_t d.0 told d.1 d.2
+    chosen_covered old new h ask both.0 both.1 at_s at_t d.0 told d.1 d.2

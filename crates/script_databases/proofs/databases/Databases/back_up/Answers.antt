@@ -1,9 +1,9 @@
-use Rattle.proof_prelude.proofs.{◌≡◌, inl, inr, Bor, List, [], ◌∷◌, ◌++◌, Option, Some, None, is_some, Ok, Err, sym, ap, ◌∙◌, option_map, option_copied}
+use Rattle.proof_prelude.proofs.{◌≡◌, inl, inr, Bor, List, [], ◌∷◌, ◌++◌, Option, Some, None, is_some, Ok, Err, refl, sym, ap, subst, ◌∙◌, option_map, option_copied}
 use Rattle.rev_tree.proofs.{is_some-copied, none_of}
 use Rattle.couch_base.specs.{DatabaseValue}
-use Rattle.repl_peer.specs.{PeerValue, backup_answer, Rules}
-use Rattle.script_databases.specs.{State, NamedBackupValue, peer_at, backup_among, backup_at, with_backup, backed_of, backed_answer, backed_told, backed_by, told_as, target_refusal, beside_of, state_of}
-use Rattle.script_databases.proofs.{found_at, copy_refused, taken_refused, backed_tied}
+use Rattle.repl_peer.specs.{PeerValue, backup_answer, copy_of, Rules}
+use Rattle.script_databases.specs.{IsConsistent, State, NamedBackupValue, peer_at, backup_among, backup_at, with_backup, backed_of, backed_answer, backed_told, backed_by, told_as, target_refusal, beside_of, state_of}
+use Rattle.script_databases.proofs.{found_at, copy_refused, taken_refused, backed_is, backed_step}
 use Rattle.script_databases.proofs.databases.Databases.back_up.Goals as goal
 
 pub returns-in_default-clause-answer : goal.returns-in_default-clause-answer
@@ -56,5 +56,20 @@ returns c =
       answer = ap backed_told is ∙ ap (λ r. backed_told (told_as target_refusal r)) (sym c.in-Ok.ensures) ∙ ap (λ n. Ok n) (sym seq);
       ok = ok;
       err = tt;
-      tied = backed_tied _ _ _ _ ok;
     }
+
+pub invariant_of-self-2 : goal.invariant_of-self-2
+invariant_of-self-2 c =
+    let g = beside_of c.self.inside.settings c.self.inside.drawn c.self.inside.backups in
+    let es = c.self.inside.by_name.entries in
+    let db = c.args.db.now in
+    let name = c.args.name.now in
+    let p = c.in-Some.peer.now.1 in
+    let found = ap (λ (o : Option (Rules × PeerValue)). option_map (λ (p : Rules × PeerValue). p.1) o) c.get.ensures.value ∙ found_at g es (state_of g es) db refl in
+    let there : peer_at (state_of g es) db ≡ Some p = sym found ∙ ap (λ (o : Option (Bor (Rules × PeerValue))). option_map (λ (p : Rules × PeerValue). p.1) (option_copied o)) c.in-Some.is in
+    let same = backed_is p c.in-Ok.backup (sym c.in-Ok.ensures) in
+    let is : c.add.new.self ≡ c.self.inside.backups ++ record { db = db; name = name; backup = copy_of p } ∷ [] = c.in_ok-add.ensures.ok ∙ (λ i. c.self.inside.backups ++ record { db = c.in_ok-key.ensures.db i; name = c.in_ok-key.ensures.name i; backup = same i } ∷ []) in (
+      record { noted = c.self.invariant.0.noted; taken = c.self.invariant.0.taken },
+      c.self.invariant.1,
+      subst (λ (ks : List NamedBackupValue). IsConsistent (state_of (beside_of c.self.inside.settings c.self.inside.drawn ks) es)) (sym is) (backed_step (state_of g es) c.self.invariant.2 db name p there),
+    )

@@ -2,7 +2,9 @@ use Rattle.proof_prelude.proofs.{◌≡◌, Result, Ok, Err, inl, sym, ap, ◌�
 use Rattle.couch_base.specs.{DatabaseValue}
 use Rattle.repl_peer.specs.{PeerValue, after_edit}
 use Rattle.script_databases.specs.{State, edited_answer, edited_as, edited_at, peer_at, GivesOrMemory, base_refusal, Edited, Refusal, beside_of, state_of}
-use Rattle.script_databases.proofs.{edit_keeps, edit_refused, on_err, peer_absent, peer_there, state_changed, state_stays, tables_stay, edited_tied, unchanged_tied}
+use Rattle.repl_network.specs.{Writes}
+use Rattle.repl_network.proofs.{edit_writes, same_writes}
+use Rattle.script_databases.proofs.{edit_refused, on_err, peer_absent, peer_there, state_changed, state_stays, tables_written}
 use Rattle.script_databases.proofs.databases.Databases.edit.Goals as goal
 
 pub returns-in_default-clause-answer : goal.returns-in_default-clause-answer
@@ -27,7 +29,6 @@ returns c =
           ∙ ap (λ n. let e : Edited = record { rev = c.in_ok-rev.rev; seq = n } in let r : Result Edited Refusal = Ok e in r) (sym seq);
       ok = ok;
       err = tt;
-      tied = edited_tied _ _ _ _ _ _ _ ok;
     }
 
 pub invariant_of-self-2 : goal.invariant_of-self-2
@@ -35,8 +36,8 @@ invariant_of-self-2 c =
     let g = beside_of c.self.inside.settings c.self.inside.drawn c.self.inside.backups in
     let l = c.in-Some.peer.now in
     let u = c.edit.new.self in
-    tables_stay g c.self.inside.by_name (c.get_mut.follows.lender u) c.args.name.now l u c.in-Some.ensures.value ((c.get_mut.follows.holds u).3 (search rules)) c.self.inside.uuids.keys
-    (ap (λ (p : PeerValue). p.db.uuid) c.in_ok-rev.ensures.ok ∙ edit_keeps c.args.id.now c.args.parent c.args.deleted c.args.body.now l.1) c.edit.ensures.filter c.self.invariant
+    tables_written g c.self.inside.by_name (c.get_mut.follows.lender u) c.args.name.now l u c.in-Some.ensures.value ((c.get_mut.follows.holds u).3 (search rules)) c.self.inside.uuids.keys
+    (subst (Writes l.1) (sym c.in_ok-rev.ensures.ok) (edit_writes c.args.id.now c.args.parent c.args.deleted c.args.body.now l.1)) c.edit.ensures.filter c.self.invariant
 
 pub returns-in_err-rev : goal.returns-in_err-rev
 returns-in_err-rev c =
@@ -52,12 +53,11 @@ returns-in_err-rev c =
           (subst (λ o. GivesOrMemory (Err (base_refusal fault)) (edited_answer o c.args.id.now c.args.parent c.args.deleted c.args.body.now)) (sym there) (edit_refused (after_edit c.in-Some.peer.now.1 c.args.id.now c.args.parent c.args.deleted c.args.body.now) fault _ c.in_err-rev.ensures.answer));
       ok = rw told.1 tt;
       err = on_err c.from_residual.result stays;
-      tied = unchanged_tied _ _ stays;
     }
 
 pub invariant_of-self-in_err-rev : goal.invariant_of-self-in_err-rev
 invariant_of-self-in_err-rev c =
     let g = beside_of c.self.inside.settings c.self.inside.drawn c.self.inside.backups in
     let u = c.edit.new.self in
-    tables_stay g c.self.inside.by_name (c.get_mut.follows.lender u) c.args.name.now c.in-Some.peer.now u c.in-Some.ensures.value ((c.get_mut.follows.holds u).3 (search rules)) c.self.inside.uuids.keys
-    (ap (λ (p : PeerValue). p.db.uuid) c.in_err-rev.ensures.err) c.edit.ensures.filter c.self.invariant
+    tables_written g c.self.inside.by_name (c.get_mut.follows.lender u) c.args.name.now c.in-Some.peer.now u c.in-Some.ensures.value ((c.get_mut.follows.holds u).3 (search rules)) c.self.inside.uuids.keys
+    (subst (Writes c.in-Some.peer.now.1) (sym c.in_err-rev.ensures.err) (same_writes c.in-Some.peer.now.1)) c.edit.ensures.filter c.self.invariant

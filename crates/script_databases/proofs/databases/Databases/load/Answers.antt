@@ -1,7 +1,9 @@
 use Rattle.proof_prelude.proofs.{◌≡◌, Err, inl, sym, ap, ◌∙◌, rules, subst, err_from_is_err_and}
-use Rattle.repl_peer.specs.{PeerValue, after_load}
+use Rattle.repl_peer.specs.{after_load}
+use Rattle.repl_network.specs.{Writes}
+use Rattle.repl_network.proofs.{load_writes, same_writes}
 use Rattle.script_databases.specs.{State, load_answer, loaded_at, peer_at, GivesOrMemory, base_refusal, told_as, beside_of, state_of}
-use Rattle.script_databases.proofs.{load_keeps, on_err, peer_absent, peer_there, put_refused, state_changed, state_stays, tables_stay, loaded_tied, unchanged_tied}
+use Rattle.script_databases.proofs.{on_err, peer_absent, peer_there, put_refused, state_changed, state_stays, tables_written}
 use Rattle.script_databases.proofs.databases.Databases.load.Goals as goal
 
 pub returns-in_default-clause-answer : goal.returns-in_default-clause-answer
@@ -22,7 +24,6 @@ returns c =
       answer = ap (λ o. load_answer o c.args.doc.now) there ∙ ap (told_as base_refusal) (sym c.in_ok-put.ensures.answer);
       ok = ok;
       err = tt;
-      tied = loaded_tied _ _ _ _ ok;
     }
 
 pub invariant_of-self-2 : goal.invariant_of-self-2
@@ -30,8 +31,8 @@ invariant_of-self-2 c =
     let g = beside_of c.self.inside.settings c.self.inside.drawn c.self.inside.backups in
     let l = c.in-Some.peer.now in
     let u = c.load.new.self in
-    tables_stay g c.self.inside.by_name (c.get_mut.follows.lender u) c.args.name.now l u c.in-Some.ensures.value ((c.get_mut.follows.holds u).3 (search rules)) c.self.inside.uuids.keys
-    (ap (λ (p : PeerValue). p.db.uuid) c.in_ok-put.ensures.ok ∙ load_keeps c.args.doc.now l.1) c.load.ensures.filter c.self.invariant
+    tables_written g c.self.inside.by_name (c.get_mut.follows.lender u) c.args.name.now l u c.in-Some.ensures.value ((c.get_mut.follows.holds u).3 (search rules)) c.self.inside.uuids.keys
+    (subst (Writes l.1) (sym c.in_ok-put.ensures.ok) (load_writes c.args.doc.now l.1)) c.load.ensures.filter c.self.invariant
 
 pub returns-in_err-put : goal.returns-in_err-put
 returns-in_err-put c =
@@ -47,12 +48,11 @@ returns-in_err-put c =
           (subst (λ o. GivesOrMemory (Err (base_refusal fault)) (load_answer o c.args.doc.now)) (sym there) (put_refused fault _ c.in_err-put.ensures.answer));
       ok = rw told.1 tt;
       err = on_err c.from_residual.result stays;
-      tied = unchanged_tied _ _ stays;
     }
 
 pub invariant_of-self-in_err-put : goal.invariant_of-self-in_err-put
 invariant_of-self-in_err-put c =
     let g = beside_of c.self.inside.settings c.self.inside.drawn c.self.inside.backups in
     let u = c.load.new.self in
-    tables_stay g c.self.inside.by_name (c.get_mut.follows.lender u) c.args.name.now c.in-Some.peer.now u c.in-Some.ensures.value ((c.get_mut.follows.holds u).3 (search rules)) c.self.inside.uuids.keys
-    (ap (λ (p : PeerValue). p.db.uuid) c.in_err-put.ensures.err) c.load.ensures.filter c.self.invariant
+    tables_written g c.self.inside.by_name (c.get_mut.follows.lender u) c.args.name.now c.in-Some.peer.now u c.in-Some.ensures.value ((c.get_mut.follows.holds u).3 (search rules)) c.self.inside.uuids.keys
+    (subst (Writes c.in-Some.peer.now.1) (sym c.in_err-put.ensures.err) (same_writes c.in-Some.peer.now.1)) c.load.ensures.filter c.self.invariant

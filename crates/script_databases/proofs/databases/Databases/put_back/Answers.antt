@@ -1,8 +1,10 @@
-use Rattle.proof_prelude.proofs.{◌≡◌, List, Ok, Err, inl, inr, refl, sym, ap, ◌∙◌, rules, subst, err_from_is_err_and, option_copied}
+use Rattle.proof_prelude.proofs.{◌≡◌, Some, Ok, Err, inl, inr, refl, sym, ap, ◌∙◌, rules, subst, err_from_is_err_and, option_copied}
 use Rattle.couch_base.specs.{DatabaseValue}
 use Rattle.repl_peer.specs.{PeerValue, restored, restored_by, after_restore, restore_answer}
-use Rattle.script_databases.specs.{NamedBackupValue, State, backup_among, backup_at, peer_at, put_back_answer, put_back_by, put_back_of, GivesOrMemory, target_refusal, told_as, beside_of, state_of}
-use Rattle.script_databases.proofs.{copy_refused, restore_keeps, on_err, peer_absent, peer_there, state_changed, state_stays, tables_stay, put_back_tied, unchanged_tied}
+use Rattle.repl_network.specs.{Writes}
+use Rattle.repl_network.proofs.{same_writes}
+use Rattle.script_databases.specs.{IsConsistent, State, backup_among, backup_at, peer_at, put_back_answer, put_back_by, put_back_of, GivesOrMemory, target_refusal, told_as, beside_of, state_of, with_peer}
+use Rattle.script_databases.proofs.{copy_refused, restore_keeps, restored_step, on_err, peer_absent, peer_there, state_changed, state_stays, tables_stay, tables_written}
 use Rattle.script_databases.proofs.databases.Databases.put_back.Goals as goal
 
 pub returns-in_default-clause-answer : goal.returns-in_default-clause-answer
@@ -28,7 +30,7 @@ pub invariant_of-self-in_default-find : goal.invariant_of-self-in_default-find
 invariant_of-self-in_default-find c =
     let g = beside_of c.self.inside.settings c.self.inside.drawn c.self.inside.backups in
     let u = c.in-Some.peer.now in
-    tables_stay g c.self.inside.by_name (c.get_mut.follows.lender u) c.args.db.now u u c.in-Some.ensures.value ((c.get_mut.follows.holds u).3 (search rules)) c.self.inside.uuids.keys refl refl c.self.invariant
+    tables_written g c.self.inside.by_name (c.get_mut.follows.lender u) c.args.db.now u u c.in-Some.ensures.value ((c.get_mut.follows.holds u).3 (search rules)) c.self.inside.uuids.keys (same_writes u.1) refl c.self.invariant
 
 pub returns-in_err-restore : goal.returns-in_err-restore
 returns-in_err-restore c =
@@ -52,15 +54,14 @@ returns-in_err-restore c =
           ]);
       ok = rw told.1 tt;
       err = on_err c.from_residual-in_err-restore.result stays;
-      tied = unchanged_tied _ _ stays;
     }
 
 pub invariant_of-self-in_err-restore : goal.invariant_of-self-in_err-restore
 invariant_of-self-in_err-restore c =
     let g = beside_of c.self.inside.settings c.self.inside.drawn c.self.inside.backups in
     let u = c.restore.new.self in
-    tables_stay g c.self.inside.by_name (c.get_mut.follows.lender u) c.args.db.now c.in-Some.peer.now u c.in-Some.ensures.value ((c.get_mut.follows.holds u).3 (search rules)) c.self.inside.uuids.keys
-    (ap (λ (p : PeerValue). p.db.uuid) c.in_err-restore.ensures.err) c.restore.ensures.filter c.self.invariant
+    tables_written g c.self.inside.by_name (c.get_mut.follows.lender u) c.args.db.now c.in-Some.peer.now u c.in-Some.ensures.value ((c.get_mut.follows.holds u).3 (search rules)) c.self.inside.uuids.keys
+    (subst (Writes c.in-Some.peer.now.1) (sym c.in_err-restore.ensures.err) (same_writes c.in-Some.peer.now.1)) c.restore.ensures.filter c.self.invariant
 
 pub returns : goal.returns
 returns c =
@@ -85,16 +86,17 @@ returns c =
           ∙ (λ i. Ok (record { seq = sym seq i; life = sym life i }));
       ok = ok;
       err = tt;
-      tied = put_back_tied _ _ _ _ ok;
     }
 
 pub invariant_of-self-2 : goal.invariant_of-self-2
 invariant_of-self-2 c =
     let g = beside_of c.self.inside.settings c.self.inside.drawn c.self.inside.backups in
+    let es = c.self.inside.by_name.entries in
+    let db = c.args.db.now in
     let l = c.in-Some.peer.now in
+    let b = c.in-Some-find.backup.now in
     let u = c.restore.new.self in
-    tables_stay g c.self.inside.by_name (c.get_mut.follows.lender u) c.args.db.now l u c.in-Some.ensures.value ((c.get_mut.follows.holds u).3 (search rules)) c.self.inside.uuids.keys
-    (ap (λ (p : PeerValue). p.db.uuid) c.in_ok-restore.ensures.ok ∙ restore_keeps c.in-Some-find.backup.now l.1) c.restore.ensures.filter c.self.invariant
-
-pub returns-in_default-find-clause-tied : goal.returns-in_default-find-clause-tied
-returns-in_default-find-clause-tied c = unchanged_tied _ _ (returns-in_default-find-clause-err c)
+    let kept : backup_at (state_of g es) db c.args.name.now ≡ Some b = sym (c.find.ensures ∙ (λ i. backup_among c.self.inside.backups (c.in_ok-key.ensures.db i) (c.in_ok-key.ensures.name i))) ∙ ap option_copied c.in-Some-find.is in
+    tables_stay g c.self.inside.by_name (c.get_mut.follows.lender u) db l u c.in-Some.ensures.value ((c.get_mut.follows.holds u).3 (search rules)) c.self.inside.uuids.keys
+    (ap (λ (p : PeerValue). p.db.uuid) c.in_ok-restore.ensures.ok ∙ restore_keeps b l.1) c.restore.ensures.filter
+    (λ h. subst (λ (x : PeerValue). IsConsistent (with_peer (state_of g es) db x)) (sym c.in_ok-restore.ensures.ok) (restored_step (state_of g es) h db c.args.name.now l.1 b (peer_there g es db l c.in-Some.ensures.value) kept)) c.self.invariant

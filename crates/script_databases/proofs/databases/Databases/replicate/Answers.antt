@@ -1,7 +1,8 @@
 use Rattle.proof_prelude.proofs.{Err, sym, ap, subst, ◌∙◌, err_from_is_err_and, contains_key}
-use Rattle.repl_peer.specs.{LawfulSessions, PeerValue}
-use Rattle.script_databases.specs.{State, Nowhere, ReplicatesBetween, ReplicatesByPool, beside_of, deny_of, peers_of, state_of}
-use Rattle.script_databases.proofs.{deny_left, has_source, has_target, index_left, refuses_is, run_denied, run_names, run_refused, state_left, pool_between}
+use Rattle.repl_peer.specs.{LawfulSessions}
+use Rattle.repl_pool.proofs.{run_leaves}
+use Rattle.script_databases.specs.{IsConsistent, State, Nowhere, ReplicatesBetween, ReplicatesByPool, beside_of, peers_of, state_of}
+use Rattle.script_databases.proofs.{has_source, has_target, refuses_is, run_denied, run_names, run_refused, state_left, tables_replicated, pool_between}
 use Rattle.script_databases.proofs.databases.Databases.replicate.Goals as goal
 
 pub take_out-sender-requires-clause-two : goal.take_out-sender-requires-clause-two
@@ -32,30 +33,19 @@ returns-in_err-check_run g c =
     let between =
     subst (λ st. ReplicatesBetween ReplicatesByPool st a b plan c.from_residual.result st) c.self.view_is
     (subst (λ r. ReplicatesBetween ReplicatesByPool (state_of beside es) a b plan r (state_of beside es)) (sym (told.1 ∙ ap Err told.2)) refused) in
-    let told = pool_between _ _ _ _ _ _ between in
-    record { between = between; tied = told.0; covered = told.1 }
+    record { between = between; covered = pool_between _ _ (subst IsConsistent c.self.view_is c.self.invariant.2) _ _ _ _ between }
 
 pub invariant_of-self : goal.invariant_of-self
 invariant_of-self g c =
-    let beside = beside_of c.self.inside.settings c.self.inside.drawn c.self.inside.backups in
     let es = c.self.inside.by_name.entries in
-    let mid = c.take_out-sender.new.names.entries in
-    let new = c.put_in.new.names.entries in
     let a = c.args.source.now in
     let b = c.args.target.now in
     let plan = c.args.plan.now in
-    let s = c.take_out-sender.result.0 in
-    let t = c.take_out-sender.result.1 in
-    let left = c.take_out-sender.ensures.left in
-    let there = c.take_out-sender.ensures.source in
-    let there' = c.take_out-sender.ensures.target in
     let ran = c.run-sender.result in
-    let runs = c.run-sender.ensures.runs in (
-      index_left (state_of beside es) (state_of beside new) a b s.1 t.1 ran.source.1 ran.target.1 c.self.inside.uuids.keys (run_names (peers_of es) a b _ _ plan c.find_both.ensures.source c.find_both.ensures.target.0 c.in_ok-check_run.ensures) there.0 there'.0
-          (ap (λ (p : PeerValue). p.db.uuid) runs.log) runs.later.db.uuid (state_left beside es mid new a b left.0.1 left.1.1 ran.source.1 ran.target.1 left.2 c.put_in.ensures.peers) c.self.invariant.0,
-      deny_left beside.program.deny es mid new a b (deny_of left.0.0) (deny_of left.1.0) (deny_of s.0) (deny_of t.0) (deny_of ran.source.0) (deny_of ran.target.0) left.3 c.put_in.ensures.filters
-          (ap deny_of runs.filter) (ap deny_of runs.grown.0) there.1 there'.1 c.self.invariant.1,
-    )
+    let runs = c.run-sender.ensures.runs in
+    tables_replicated (beside_of c.self.inside.settings c.self.inside.drawn c.self.inside.backups) es c.take_out-sender.new.names.entries c.put_in.new.names.entries a b c.take_out-sender.result.0 c.take_out-sender.result.1 ran.source ran.target c.self.inside.uuids.keys
+    (run_names (peers_of es) a b _ _ plan c.find_both.ensures.source c.find_both.ensures.target.0 c.in_ok-check_run.ensures) c.take_out-sender.ensures.left (c.put_in.ensures.peers, c.put_in.ensures.filters)
+    c.take_out-sender.ensures.source c.take_out-sender.ensures.target runs.filter runs.grown.0 _ plan (run_leaves _ _ _ _ _ _ _ _ _ _ runs) runs.later c.self.invariant
 
 pub returns : goal.returns
 returns g c =
@@ -87,5 +77,4 @@ returns g c =
         state_left beside es mid new a b left.0.1 left.1.1 ran.source.1 ran.target.1 left.2 c.put_in.ensures.peers,
       ),
     ) in
-    let told = pool_between _ _ _ _ _ _ between in
-    record { between = between; tied = told.0; covered = told.1 }
+    record { between = between; covered = pool_between _ _ (subst IsConsistent c.self.view_is c.self.invariant.2) _ _ _ _ between }
