@@ -16,7 +16,7 @@ pub(crate) struct State {
     pub(crate) seq: String,
     /// The leaf revisions of the document.
     pub(crate) revs: Vec<String>,
-    /// Whether this state of a document was read from a `state` line of the journal.
+    /// Whether a document's state was read from a `state` line of the journal, and not collected from document lines.
     pub(crate) named: bool,
 }
 
@@ -146,8 +146,8 @@ impl States {
         self.blocks.lines()
     }
 
-    /// Whether the journal ends with an incomplete line, or has a line that no right checksum confirms. If the task
-    /// ignores checksums (`unverified`), the call only finds an incomplete last line.
+    /// Whether the journal ends with an incomplete line, or has a line that the journal's checksums do not confirm. If
+    /// the task ignores checksums (`unverified`), only an incomplete last line counts as damage.
     pub fn is_damaged(&self) -> bool {
         self.damaged
     }
