@@ -125,8 +125,8 @@ fn rows_of(alloc: Global, items: &Vec<Value<'_>>) -> Result<Option<Vec<Leaves>>,
     Ok(Some(rows))
 }
 
-/// Whether a row of changes is printed as a `state` line. If `several` is true, only rows with two or more leaves are
-/// printed.
+/// Whether a row of changes is printed as a journal's `state` line. If `several` is true, only rows of changes with two
+/// or more leaves are printed.
 fn is_printed(several: bool, row: &Leaves) -> bool
     ensures { result ≡ is_printed several (leaves_view row.now) }
 {

@@ -4,8 +4,8 @@ use Rattle.std.specs.Option.{option_or}
 use Rattle.journal_core.specs.Wrong.{first_index}
 use Rattle.journal_tasks.specs.declared.count.Count.{Count}
 
--- The number of an input's first wrong line: `before`, or `number` if `before` is `None`. Line `number` is wrong, and
--- `before` is the number of the first wrong line before line `number`, or `None`.
+-- The number of an input's first wrong line, which is `before`, or `number` if `before` is `None`. Line `number` is
+-- wrong, and `before` is the number of the first wrong line before line `number`, or `None`.
 abbrev pub failed : Option ℕ → ℕ → Option ℕ
 failed before number = option_or before (Some number)
 

@@ -11,7 +11,7 @@ use std::alloc::{AllocError, Global};
 use std::str;
 
 /// The task's input is a list of leaves, an empty line and a `_revs_diff` response. The task prints a `state` line for
-/// each document of which the response names leaves as missing.
+/// each document of which the `_revs_diff` response names leaves as missing.
 ///
 /// The task holds in memory the list of leaves and the `_revs_diff` response.
 #[derive(Drop)]
@@ -111,8 +111,8 @@ impl Lacking {
         self.refused
     }
 
-    /// Returns the missing leaves that the response names. Returns `None` if the response is not a valid `_revs_diff`
-    /// response, or names a leaf that is not in the input's list of leaves.
+    /// Returns the missing leaves that the response names. Returns `None` if the input has no valid `_revs_diff`
+    /// response, or if the response names a leaf that is not in the input's list of leaves.
     fn missing(&mut self) -> Result<Option<Docs>, AllocError> {
         let Ok(text) = str::from_utf8(self.response.as_slice()) else {
             return Ok(None);

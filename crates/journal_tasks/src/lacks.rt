@@ -5,9 +5,9 @@ use json::Scratch;
 use memchr::memchr;
 use std::alloc::{AllocError, Global};
 
-/// A table of the documents of which a journal does not have all requested leaves. The table has each document's last
-/// `lacks` line, unless a `state` line of the document follows in the journal. A `lacks` line says that not all
-/// requested leaves of a document were received.
+/// A table of the documents of which a journal does not have all requested leaves. The table of documents has each
+/// document's last `lacks` line, unless a `state` line of the document follows in the journal. A `lacks` line says that
+/// not all requested leaves of a document were received.
 #[derive(Drop)]
 pub(crate) struct Lacks {
     alloc: Global,

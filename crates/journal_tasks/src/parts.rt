@@ -48,8 +48,8 @@ impl Parts {
                 || bytes.saturating_add(line as u64).saturating_add(1) > self.most_bytes)
     }
 
-    /// Appends the collected part of the input to the output `text`, after a line with its numbers of lines and bytes.
-    /// Begins a new part.
+    /// Appends the collected part of the input to the output `text`, after a line with the part's numbers of lines and
+    /// bytes. Empties the collected part, so that the task can collect the next part of its input.
     fn push(&mut self, text: &mut Vec<u8>) -> Result<(), AllocError> {
         let mut digits = Buffer::new();
         text.extend_from_slice(b"part ".as_slice())?;

@@ -185,7 +185,7 @@ fn want(alloc: Global, docs: &mut Docs, leaves: &Leaves) -> Result<(), AllocErro
     put(alloc, docs, leaves.id.as_str(), doc)
 }
 
-/// Reads a line of the request. Returns false if the line is neither a `state` line nor a `lacks` line.
+/// Reads a line of the request. Returns false if a line of the request is neither a `state` line nor a `lacks` line.
 fn request(
     alloc: Global,
     docs: &mut Docs,

@@ -83,9 +83,9 @@ impl Select {
         self.blocks.lines()
     }
 
-    /// Whether the first copy of the journal in the input is damaged. A copy is damaged unless it has exactly `size`
-    /// bytes in complete lines, all of which the journal's checksums confirm. With the option `unverified`, the task
-    /// checks only the size of the journal's copy, and not its checksums.
+    /// Whether the first copy of the journal in the input is damaged. A journal's copy is damaged unless it has exactly
+    /// `size` bytes in complete lines, all of which the journal's checksums confirm. With the option `unverified`, the
+    /// task checks only the size of the journal's copy, and not its checksums.
     pub fn is_damaged(&self) -> bool {
         self.damaged
     }
@@ -115,7 +115,7 @@ impl Select {
         Ok(())
     }
 
-    /// Reads a line of the first copy of the journal in the input. The line is not a `sum` line, which ends a block.
+    /// Reads a line, other than a `sum` line (the end of a block), of the first copy of the journal in the input.
     fn note(&mut self, line: &[u8]) -> Result<(), AllocError> {
         match entry_of(self.alloc, &mut self.scratch, line)? {
             Entry::State(leaves) => self.map.name(leaves),

@@ -152,7 +152,7 @@ impl States {
         self.damaged
     }
 
-    /// Reads a line of the journal. The line is not a checksum line (the line that ends a block).
+    /// Reads a line of the journal, other than a `sum` line (the end of a block).
     fn note(&mut self, line: &[u8]) -> Result<(), AllocError> {
         match entry_of(self.alloc, &mut self.scratch, line)? {
             Entry::State(leaves) => self.map.name(leaves),

@@ -311,8 +311,9 @@ impl<'a> Tokens<'a> {
 
     /// Returns the initial capacity of an array or object, before its first element is read. The initial capacity is 0
     /// for an empty array or object, and 8 for any other array or object of a short text. In a long text, an object's
-    /// initial capacity is the length of the last object at the same nesting depth (modulo 4), but at most 16. Arrays
-    /// in a long text are handled like objects.
+    /// initial capacity is the length of the last object at the same nesting depth (modulo 4), but at most 16. In a
+    /// long text, an array's initial capacity is the length of the last array at the same nesting depth (modulo 4), but
+    /// at most 16.
     #[inline(always)]
     pub(crate) fn room(&self, is_object: bool, depth: usize) -> usize {
         let next = self.lexer.peek();

@@ -39,7 +39,7 @@ pub data IsListOf (Item : List ℕ → List Piece → Type 0) : List ℕ → Lis
 
 -- ---- members
 
--- Whether the parser skips a member of the given kind.
+-- Whether the parser skips a member, given the member's kind.
 abbrev pub is_skipped : Name → Bool
 is_skipped names.Plain = false
 is_skipped names.Item = false

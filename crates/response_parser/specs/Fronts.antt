@@ -26,9 +26,9 @@ IsStart Unfolded s S = IsTakeStart s S
 IsStart Leaves s S = ⊥
 IsStart Changes s S = ⊥
 
--- The beginning of a document of which the parser may not have stored some string bytes. The text `full` has all bytes,
--- and `stored` has only the stored bytes. The text `written` is the output for `full`, and `front` is the output for
--- `stored`.
+-- The beginning of a document of which the parser may not have stored some string bytes. The text `full` has all bytes
+-- of a document's beginning, and the text `stored` has only the bytes that the parser stored. The text `written` is the
+-- output for `full`, and `front` is the output for `stored`.
 pub record Cut : Type 0 where
   pub full : List ℕ
   pub stored : List ℕ
@@ -50,9 +50,9 @@ pub record HasWritten (s : State) (written : List ℕ) : Type 0 where
 
 -- In the parser's state s, the parser has just read the end of a document. The text `written` is the output for
 -- `cut.full`, the first bytes of the document, of which there are at least 262,144 (`long`). The output for the
--- document's stored bytes does not begin with `cut.front`, the output for the stored bytes of `cut.full`. The cause is
--- a member `_id`, `_rev`, `_revisions` or `_deleted` after `cut.full`, which an envelope stores outside of its member
--- `whole`.
+-- document's stored bytes does not begin with `cut.front`, the output for the stored bytes of `cut.full`. A document is
+-- late only if a member `_id`, `_rev`, `_revisions` or `_deleted`, which an envelope stores outside of `whole`, follows
+-- `cut.full`.
 pub record IsLate (s : State) (written : List ℕ) : Type 0 where
   pub cut : Cut
   pub rest : List ℕ

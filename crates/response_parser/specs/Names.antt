@@ -18,8 +18,8 @@ use Rattle.response_parser.specs.declared.place.Found.TheVariants as found
 abbrev pub id_name : Bool → Bool → Name
 id_name strict first = cond first Plain (cond strict Foreign Passed)
 
--- The kind of an outermost object's member with the name t: `Last` or `Seq` for members of a PouchDB dump, otherwise
--- `Other`.
+-- The kind of an outermost object's member with the name t, which is `Last` or `Seq` for members of a PouchDB dump, and
+-- otherwise `Other`.
 abbrev pub outermost_name : Bool → List ℕ → Name
 outermost_name first t =
     cond (bytes_eq t (codes "\"db_info\"")) Last (cond (first && bytes_eq t (codes "\"seq\"")) Seq Other)

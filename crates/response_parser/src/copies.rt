@@ -39,8 +39,8 @@ impl Spot {
         }
     }
 
-    /// Returns the position in a string after the next closing quotation mark or the next escape of two bytes. If fewer
-    /// than two input bytes are left from the quotation mark or escape on, returns the position before it.
+    /// Returns the position in a string after the next closing quotation mark or the next escape of two bytes. Returns
+    /// the position before the next quotation mark or escape if fewer than two input bytes are left.
     #[inline(always)]
     fn in_string(self, bytes: &[u8]) -> Spot
         requires within { self.count < length bytes.now }

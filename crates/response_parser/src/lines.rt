@@ -62,8 +62,8 @@ impl Reading {
         Ok(())
     }
 
-    /// Reads a first byte that opens neither a list nor an object. The byte begins a line of a script's output, or
-    /// input that the parser rejects.
+    /// Reads the first byte of a line of a script's output, or of input that the parser rejects because it opens
+    /// neither a list nor an object.
     fn at_begin(&mut self, byte: u8) -> Result<(), AllocError>
         ensures { OnOk result (state_of self.new ≡ at_begin (state_of self.old) byte) }
     {

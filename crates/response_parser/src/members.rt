@@ -180,7 +180,8 @@ impl Reading {
     }
 
     /// Reads a byte before the value of a member that may be a document's entry in a `_revs_diff` response. If the
-    /// value is an object, the member is a document's entry, and the member's name is the document's id.
+    /// member's value is an object, the member is a document's entry in a `_revs_diff` response, and its name is the
+    /// document's id.
     pub(crate) fn at_ahead(&mut self, name: Name, byte: u8) -> Result<(), AllocError>
         ensures { OnOk result (state_of self.new ≡ at_ahead name (state_of self.old) byte) }
     {

@@ -27,8 +27,8 @@ pub enum Wanted {
 pub enum Name {
     /// A member `_id` that comes first in an object, which is therefore a document or a log.
     Plain,
-    /// A first member other than `_id` in an item of the outermost object's list `docs`. The item is a document if it
-    /// has a later member `_id`.
+    /// A first member other than `_id` in an item of the outermost object's list `docs`. An item of the list `docs` is
+    /// a document if it has a member `_id`.
     Item,
     /// A member `ok` or `doc`, whose value is a document if it is an object.
     Document,
@@ -38,8 +38,8 @@ pub enum Name {
     List,
     /// The member `docs` of an outermost object, whose value is a list of objects.
     Docs,
-    /// A member `changes`, whose value is a document's list of revisions. The document's id precedes the list in the
-    /// same object.
+    /// A member `changes`, whose value is the list of revisions of a document whose id precedes the list in the same
+    /// object.
     Changes,
     /// A member `rev` in a document's list of revisions.
     Rev,

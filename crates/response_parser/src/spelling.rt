@@ -131,8 +131,8 @@ fn name_of_id(strict: bool, first: bool) -> Name
     }
 }
 
-/// Returns the kind of an outermost object's member with the name `text`: `Last` or `Seq` for members of a PouchDB
-/// dump, otherwise `Other`.
+/// Returns the kind of an outermost object's member with the name `text`, which is `Last` or `Seq` for members of a
+/// PouchDB dump, and otherwise `Other`.
 fn name_of_outermost(first: bool, text: &[u8]) -> Name
     ensures { result ≡ outermost_name first text.now }
 {

@@ -282,8 +282,8 @@ impl Databases {
         Ok(PutBack { seq, life })
     }
 
-    /// Replicates from one existing database to another with a pool of threads. The call blocks until the replication
-    /// has ended.
+    /// Replicates from one existing database to another with a pool of threads. `replicate` blocks until the
+    /// replication has ended.
     ///
     /// A plan that is rejected at the start changes nothing. A replication from a database to itself is rejected
     /// at the start.

@@ -200,8 +200,8 @@ replicated_text session ended = do
   ending ← ended
   Ok (ending_line session ending)
 
--- The result of a `replicate` line whose two databases exist, given the line's selection of documents, or the error of
--- an invalid selection.
+-- The result of a `replicate` line between two existing databases, given the line's selection of documents, or the
+-- error of an invalid selection.
 abbrev pub ReplicatesChosen : State → ReplicateAsk → PeerValue × PeerValue → Result Choice Refusal → Told → State
     → Type 0
 ReplicatesChosen old ask both (Ok chosen) told new =

@@ -42,9 +42,10 @@ abbrev pub HasRefusedNone : PeerValue → Id → Type 0
 HasRefusedNone p id =
     (s : SessionValue) → Among s p.sessions → (x : RefusedValue) → Among x s.ledger → x.doc.id ≡ id → ⊥
 
--- How replications in both directions between databases a and b change document `id`. Afterwards, each of the databases
--- a' and b' has all leaves of the document that the other database has. If the document's trees in databases a and b
--- agree and have complete histories, databases a' and b' have the same document.
+-- How replications in both directions between databases a and b change document `id`. After replications in both
+-- directions, each of the databases a' and b' has all leaves of document `id` that the other database has. If the trees
+-- of document `id` in databases a and b agree and have complete histories, databases a' and b' have the same document
+-- `id`.
 pub record Meets (a b a' b' : DatabaseValue) (id : Id) : Type 0 where
   pub there : KnowsLeaves b' a' id
   pub back : KnowsLeaves a' b' id

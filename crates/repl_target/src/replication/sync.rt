@@ -23,7 +23,7 @@ pub struct Synced {
 /// The replication that failed (forward or reverse), and the reason why it failed.
 #[derive(Debug, Drop, Error)]
 pub enum SyncFault {
-    /// The forward replication, from peer `a` into peer `b`, failed. The reverse replication did not begin.
+    /// The forward replication, from peer `a` into peer `b`, failed, and the reverse replication did not begin.
     #[error("there: {0}")]
     There(TargetFault),
     /// The reverse replication, from peer `b` into peer `a`, failed after the forward replication had succeeded.
