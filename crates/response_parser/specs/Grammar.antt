@@ -54,8 +54,8 @@ pub data IsDocument (wanted : Wanted) : List ℕ → List Piece → Type 0 where
   document : {o u v : List ℕ} → IsPlainDocument o u → is_log u ≡ false → covered wanted u ≡ Some v → IsDocument wanted o ((found.Document, v) ∷ [])
   log : {o u : List ℕ} → IsPlainDocument o u → is_log u ≡ true → IsDocument wanted o []
 
--- The text o is an object whose first member is not `_id`, and u is the same object on one line. The object is an item of
--- the list `docs` of an outermost object.
+-- The text o is an object whose first member is not `_id`, and u is the same object on one line. The object o is an
+-- item of the list `docs` of an outermost object.
 pub record IsLateDocument (wanted : Wanted) (o u : List ℕ) : Type 0 where
   pub before : List ℕ
   pub key : List ℕ

@@ -100,8 +100,8 @@ impl Databases {
         })
     }
 
-    /// Has no effect at run time, but gives proofs the invariant of the databases: all databases are consistent with each
-    /// other (docs/PROFILE.md, "Tied databases").
+    /// Has no effect at run time, but gives proofs the invariant of the databases: all databases are consistent with
+    /// each other (docs/PROFILE.md, "Tied databases").
     pub fn law(&self)
         ensures { IsConsistent self.now }
     {
