@@ -133,7 +133,8 @@ fn is_printed(several: bool, row: &Leaves) -> bool
     if several { row.revs.len() >= 2 } else { true }
 }
 
-/// Appends the journal's `state` line for a row of changes, unless `several` is true and the row has only one leaf.
+/// Appends the journal's `state` line for a row of changes, unless `several` is true and the row has fewer than two
+/// leaves.
 fn push_row(
     alloc: Global,
     text: &mut Vec<u8>,
@@ -256,7 +257,7 @@ fn push_page(
 /// # Errors
 ///
 /// Returns `Error` if the value is an error of CouchDB, or `Other` if the value is neither a page nor an error. Returns
-/// `Memory` if an allocation failed. After an error, the buffer `text` may end with a part of the page's lines.
+/// `Memory` if an allocation failed. After an error, a part of the page's output may be in the buffer `text`.
 pub fn page_of(
     alloc: Global,
     text: &mut Vec<u8>,

@@ -14,8 +14,8 @@ failed before number = option_or before (Some number)
 abbrev pub failed_end : Option ℕ → ℕ → List ℕ → Option ℕ
 failed_end before count rest = if nat_eq (length rest) 0 then before else failed before (count + 1)
 
--- A task's line count after the task has checked its last line. The argument `wrong` says whether the task's last line
--- is wrong. If only the task's last line is wrong, the line count records it as the first wrong line.
+-- A task's line count after the task has checked the line that it counted last. The argument `wrong` says whether the
+-- line that was counted last is wrong. The line count keeps the number of the first wrong line.
 abbrev pub counted_as : Bool → Count → Count
 counted_as wrong count = if wrong then record { lines = count.lines; wrong = failed count.wrong count.lines } else count
 

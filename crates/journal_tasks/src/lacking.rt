@@ -106,7 +106,8 @@ impl Lacking {
     }
 
     /// Whether the input has no valid `_revs_diff` response after an empty line. A `_revs_diff` response is invalid if
-    /// it names a leaf that is not in the input's list of leaves.
+    /// it names a leaf that is not in the input's list of leaves. If a line of the list of leaves is wrong, the task
+    /// does not check the `_revs_diff` response.
     pub fn is_refused(&self) -> bool {
         self.refused
     }

@@ -23,7 +23,8 @@ pub struct Parts {
 }
 
 impl Parts {
-    /// Creates the task that splits its input into parts of at most `most_bytes` bytes and `most_lines` lines.
+    /// Creates the task that splits its input into parts of at most `most_bytes` bytes and `most_lines` lines. A line
+    /// that alone exceeds a maximum is a part by itself.
     pub fn new(alloc: Global, most_bytes: u64, most_lines: u64) -> Parts {
         Parts {
             alloc,

@@ -141,8 +141,9 @@ impl<'v, 'a> LinePart<'v, 'a> {
         self.plain
     }
 
-    /// Returns the length of the complete line's text in bytes, or 0 if the text is shorter than `LONG_TEXT`. If a JSON
-    /// value in the line has no floating-point number, its compact form is at most as long as the line's text.
+    /// Returns the length of the complete line's text in bytes, or 0 if the text is shorter than `LONG_TEXT`. If each
+    /// number in a JSON value of the line is an i64 or a u64, the value's compact form is at most as long as the line's
+    /// text.
     ///
     /// The contract of `long_len` states only bounds of the length, because callers use the length only to reserve
     /// capacity.

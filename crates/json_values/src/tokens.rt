@@ -310,10 +310,9 @@ impl<'a> Tokens<'a> {
     }
 
     /// Returns the initial capacity of an array or object, before its first element is read. The initial capacity is 0
-    /// for an empty array or object, and 8 for any other array or object of a short text. In a long text, an object's
-    /// initial capacity is the length of the last object at the same nesting depth (modulo 4), but at most 16. In a
-    /// long text, an array's initial capacity is the length of the last array at the same nesting depth (modulo 4), but
-    /// at most 16.
+    /// for an empty array or object, and 8 for any other array or object of a short text. In a long text, the initial
+    /// capacity is the last length for the same kind (array or object) and nesting depth (modulo 4), but at most 16.
+    /// The initial capacity is 8 if a long text has had no array or object of the same kind and nesting depth yet.
     #[inline(always)]
     pub(crate) fn room(&self, is_object: bool, depth: usize) -> usize {
         let next = self.lexer.peek();

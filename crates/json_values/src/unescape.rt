@@ -20,7 +20,9 @@ fn append(out: &mut [u8], at: usize, bytes: &[u8])
 }
 
 /// Copies the bytes of a text from index `from` up to, but not including, index `to` into a buffer, at index `at`. The
-/// bytes are copied in SIMD vectors of 32 bytes, if the text and the buffer both have at least 32 further bytes.
+/// call copies complete SIMD vectors of 32 bytes, if text and buffer both have at least 32 bytes after the copied
+/// bytes. By copying complete SIMD vectors, the call may also overwrite up to 31 bytes of the buffer after the copied
+/// bytes.
 #[inline(always)]
 fn append_run(out: &mut [u8], at: usize, text: &[u8], from: usize, to: usize)
     requires { (from ≤ to) × (to ≤ length text.now) × (at + (to - from) ≤ length out.old) }

@@ -17,7 +17,7 @@ abbrev pub long : ℕ
 long = 262144
 
 -- The text s is the beginning of a document, after which string bytes may follow that the parser does not store. If a
--- document begins with the text s and has no late member (`IsLate`), the document's output begins with the text S.
+-- document begins with the text s and is not late (`IsLate`), the document's output begins with the text S.
 abbrev pub IsStart : Wanted → List ℕ → List ℕ → Type 0
 IsStart Documents s S = ⊥
 IsStart Enveloped s S = IsPutStart s S

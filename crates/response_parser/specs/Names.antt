@@ -214,7 +214,7 @@ passes Foreign first = false
 
 -- The error that a member's value causes, or `None`. A value that must be a document id or a revision causes an error
 -- if it is not a string. A string `reason` causes `CouchError` if a string `error` came before in the response, and the
--- parser entered no list or object in between.
+-- parser entered or left no searched list or object in between.
 abbrev pub refusal_of : Name → ℕ → Bool → Option Refusal
 refusal_of Plain first failed = None
 refusal_of Item first failed = None

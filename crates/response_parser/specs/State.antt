@@ -26,8 +26,8 @@ pub record State : Type 0 where
   pub inner : Bool
   -- Whether the current response is a response of `_revs_diff`.
   pub diff : Bool
-  -- Whether the parser has read a string as the value of `error`, and has since neither entered nor left a searched
-  -- list or object.
+  -- Whether the parser has read a member `error` with a string, and has since neither entered nor left a list or object
+  -- that it searches.
   pub failed : Bool
   -- The number of brackets that are open within the parser's current value.
   pub nesting : ℕ

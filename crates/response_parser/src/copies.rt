@@ -39,8 +39,9 @@ impl Spot {
         }
     }
 
-    /// Returns the position in a string after the next closing quotation mark or the next escape of two bytes. Returns
-    /// the position before the next quotation mark or escape if fewer than two input bytes are left.
+    /// Returns the position after the next quotation mark or two-byte escape in a string. Returns the position before a
+    /// control byte, or before a quotation mark or backslash that is the last input byte. Returns the end of the input
+    /// bytes if they have no further quotation mark, backslash or control byte.
     #[inline(always)]
     fn in_string(self, bytes: &[u8]) -> Spot
         requires within { self.count < length bytes.now }

@@ -30,8 +30,8 @@ pub struct Reading {
     pub(crate) inner: bool,
     /// Whether the current response is a response of `_revs_diff`.
     pub(crate) diff: bool,
-    /// Whether the parser has read a string as the value of `error`, and has since neither entered nor left a searched
-    /// list or object.
+    /// Whether the parser has read a member `error` with a string, and has since neither entered nor left a list or
+    /// object that it searches.
     pub(crate) failed: bool,
     /// The number of brackets of the current value that are open.
     pub(crate) nesting: u8,

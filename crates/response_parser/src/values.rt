@@ -260,8 +260,8 @@ fn passes(name: Name, first: u8) -> bool
     }
 }
 
-/// Returns the reason why the parser rejects a member's value, or `None`. Either the value must be a string and is not
-/// a string, or the value is the `reason` of a CouchDB error.
+/// Returns the reason why the parser rejects a member's value, or `None`. The parser rejects a value that must be a
+/// string and is not a string, and a string that is the `reason` of a CouchDB error.
 fn refusal_of(name: Name, first: u8, failed: bool) -> Option<Refusal>
     ensures { result ≡ refusal_of name first failed }
 {

@@ -211,8 +211,8 @@ impl Refusal {
         }
     }
 
-    /// Returns the low water of the error `Unfinished`. Converts an error of a replication other than `Unfinished` to
-    /// the error of a script line.
+    /// Returns `Ok` with the low water if a replication failed with `Unfinished`. For any other error of a replication,
+    /// returns `Err` with the error of the script line.
     pub fn stop_of(fault: TargetFault) -> Result<u64, Refusal>
         ensures { result ≡ stop_of fault }
     {
@@ -222,8 +222,8 @@ impl Refusal {
         }
     }
 
-    /// Returns the low water of the error `Unfinished`. Converts any other error of a replication with a pool of
-    /// threads to the error of a script line.
+    /// Returns `Ok` with the low water if a replication with a pool of threads failed with `Unfinished`. For any other
+    /// error of a replication with a pool of threads, returns `Err` with the error of the script line.
     pub fn run_stop_of(fault: PoolFault) -> Result<u64, Refusal>
         ensures { result ≡ run_stop_of fault }
     {
