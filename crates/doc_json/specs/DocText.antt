@@ -22,7 +22,7 @@ start_text (r ∷ rest) = decimal r.generation
 abbrev pub sig_text : RevId → List ℕ
 sig_text r = 34 ∷ (r.sig ++ 34 ∷ [])
 
--- The signatures of a list of revisions in quotation marks, separated by commas.
+-- The signatures of the revisions `revs`, each signature in quotation marks, with a comma between two signatures.
 abbrev pub sig_texts : List RevId → List ℕ
 sig_texts revs = join_with_byte 44 (map sig_text revs)
 

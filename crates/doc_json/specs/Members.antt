@@ -1,4 +1,4 @@
--- Defines members of an object whose names begin, or do not begin, with `_`, as specified in docs/PROFILE.md,
+-- Defines which members of a JSON object have a leading `_` in their names, as specified in docs/PROFILE.md,
 -- "Documents" and "What `read_doc` accepts".
 use Rattle.std.specs.Prelude.{ℕ, Bool, false, ◌&&◌, ◌||◌, not, List, [], ◌∷◌, codes, if◌then◌else◌}
 use Rattle.std.specs.Str.{bytes_eq}

@@ -88,7 +88,7 @@ impl Body {
     }
 }
 
-/// Reads a JSON value as a body.
+/// Reads a document's body from a JSON value.
 ///
 /// # Errors
 ///
@@ -104,15 +104,15 @@ pub fn read_body(alloc: Global, value: &Value) -> Result<Body, DocFault>
     body_of(alloc, value, NONE_KNOWN, 0)
 }
 
-/// Reads a JSON value inside a line as a body. The call returns the errors of `read_body`.
+/// Reads a document's body from a `LinePart`, a JSON value inside a line. Returns the same errors as `read_body`.
 pub fn read_line_body(alloc: Global, part: &LinePart<'_, '_>) -> Result<Body, DocFault>
     ensures { GivesUnlessMemory result (body_read (line_view part.now)) }
 {
     body_of(alloc, part.value(), part.plain(), part.long_len())
 }
 
-/// Reads a value as a body. The argument `plain` says which strings of the value need no escapes when they are written
-/// as JSON. The argument `room` is a lower bound of the initial capacity for the body.
+/// Reads a document's body from a JSON value. The argument `plain` says which strings of the value need no escapes when
+/// they are written as JSON. The argument `room` is a lower bound of the initial capacity of the body's buffer.
 fn body_of<'v, V: JsonValue<'v>>(
     alloc: Global,
     value: &'v V,
@@ -138,7 +138,7 @@ where
     Ok(Body::from_text(text))
 }
 
-/// Builds the body from an object's members without a leading `_`.
+/// Builds a document's body from a JSON object, without the members whose names begin with `_`.
 pub(crate) fn plain_body<'v, V: JsonValue<'v>>(
     alloc: Global,
     members: &'v V::Object,
@@ -154,7 +154,7 @@ pub(crate) fn plain_body<'v, V: JsonValue<'v>>(
     Ok(Body::from_text(text))
 }
 
-/// Serializes an object's members without a leading `_` into shared bytes.
+/// Serializes a JSON object, without the members whose names begin with `_`, into shared bytes.
 fn plain_written<'v, V: JsonValue<'v>>(
     alloc: Global,
     members: &'v V::Object,

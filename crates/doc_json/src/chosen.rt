@@ -135,7 +135,7 @@ fn in_order(ids: Vec<DocId>) -> Vec<DocId>
     ids
 }
 
-/// From this contract, proofs learn that each document id is a string of bytes.
+/// Guarantees by its contract, which proofs use, that each document id in a list is a string of bytes.
 fn are_texts(ids: &[DocId])
     ensures { AllByRecursion IsText ids.now }
 {

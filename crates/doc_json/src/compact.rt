@@ -16,13 +16,13 @@ use crate::text::push_name;
 use json_values::PlainTexts;
 use std::alloc::{AllocError, Global};
 
-/// The initial capacity of a serialization buffer, in bytes. Most small documents need no larger buffer. A capacity
-/// that is up to 15 bytes smaller would take the same amount of memory from the allocator.
+/// The initial capacity of a serialization buffer, in bytes. A buffer of 136 bytes is large enough for most small
+/// documents. A capacity that is up to 15 bytes smaller would take the same amount of memory from the allocator.
 const SHORT: usize = 136;
 
-/// Serializes the object that has those of the given members whose names do not begin with `_`. The initial capacity of
-/// the buffer is at least `room`. The buffer of the result has fewer than 32 unused bytes. If the serialized text is
-/// short and the allocation for a smaller buffer succeeds, the buffer has fewer than 16 unused bytes.
+/// Serializes a JSON object without its members whose names begin with `_`. The initial capacity of the buffer is at
+/// least `room`. The returned buffer has fewer than 32 unused bytes. If the serialized text has at most `SHORT` bytes
+/// and the allocation of a smaller buffer succeeds, the returned buffer has fewer than 16 unused bytes.
 pub(crate) fn plain_text<'v, V: JsonValue<'v>>(
     alloc: Global,
     members: &'v V::Object,
@@ -68,8 +68,9 @@ fn trimmed(text: Vec<u8>) -> Vec<u8>
     text
 }
 
-/// Copies a text of at most `SHORT` bytes to a buffer of the text's length, if the given buffer has at least 16 unused
-/// bytes and the allocation succeeds. In all other cases, the call returns the given buffer.
+/// Moves a text of at most `SHORT` bytes to a buffer of the text's length, if the text's old buffer has at least 16
+/// unused bytes. Returns the text in its old buffer if the text is longer than `SHORT`, the old buffer has fewer than
+/// 16 unused bytes, or the allocation fails.
 fn fitted(alloc: Global, text: Vec<u8>) -> Vec<u8>
     ensures { result.items ≡ text.items }
 {
@@ -83,7 +84,7 @@ fn fitted(alloc: Global, text: Vec<u8>) -> Vec<u8>
     }
 }
 
-/// Serializes the object that has those of the given members whose names do not begin with `_`.
+/// Appends the serialized form of a JSON object to a buffer, without the members whose names begin with `_`.
 fn push_plain<'v, V: JsonValue<'v>>(
     members: &'v V::Object,
     plain: PlainTexts,

@@ -179,7 +179,8 @@ impl Hash for DocId {
     }
 }
 
-/// Checks whether a string is a document id. If the string is not a document id, the call returns the error.
+/// Checks whether a string is a document id. Returns `NoId` if the string is empty, and `ReservedId` if the string
+/// begins with `_` and is not a design document's id.
 pub(crate) fn check_id(text: &str) -> Result<(), DocFault>
     ensures ok { OnOk result (doc_id_read text.now ≡ Ok text.now) }
     ensures err { IfErr result (λ e. doc_id_read text.now ≡ Err e) }

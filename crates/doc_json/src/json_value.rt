@@ -16,9 +16,8 @@ use std::alloc::AllocError;
 /// `json_values`).
 ///
 /// Contract clauses describe a JSON value by its data (`seen`). The ghost value `in_order` says whether the members of
-/// an object are in the byte order of the members' names. Some types of JSON values guarantee that members are in this
-/// byte order. For a type of JSON value that does not guarantee the byte order of members, the caller must guarantee
-/// it.
+/// an object are in the byte order of the members' names. A `Value` always has its members in byte order of their
+/// names. For a `LineValue`, the caller must guarantee that the members are in byte order.
 pub(crate) trait JsonValue<'v>: Sized + 'v {
     /// An iterator over the members of a JSON object.
     type Object;

@@ -1,4 +1,4 @@
-//! Implements `JsonValue` for the values of lines.
+//! Implements the trait `JsonValue` for `LineValue`, a JSON value that was read from a line.
 ghost use Rattle.std.specs.Prelude.{◌≡◌, ◌++◌, ◌∷◌, false, OnOk};
 ghost use Rattle.std.specs.Slice.Iter.{iter_rest};
 ghost use Rattle.json_values.specs.LineView.{line_view, line_items, line_members};

@@ -1,4 +1,5 @@
-//! A table of hashes of the ids in a list. One lookup in the table rejects most ids that are not in the list.
+//! A table of hashes of the document ids in a list. One lookup in a list's table of hashes rejects most document ids
+//! that are not in the list.
 ghost use Rattle.std.specs.Prelude.{◌≡◌, ◌<◌, ◌-◌, true, IfOk, length, drop};
 ghost use Rattle.std.specs.Arc.{arc_slice_items};
 ghost use Rattle.doc_json.specs.Marks.{AreMarks, is_marked, place_of};
@@ -7,7 +8,7 @@ use crate::doc_id::DocId;
 use std::alloc::{AllocError, Global};
 use std::sync::ArcSlice;
 
-/// The number of table entries for each id of the list.
+/// The number of entries that a table of hashes has for each document id.
 const PLACES_EACH: usize = 8;
 
 /// The table for a list of fewer than `FEWEST` ids has the size of a table for `FEWEST` ids.
@@ -16,7 +17,7 @@ const FEWEST: usize = 8;
 /// The table for a list of more than `MOST` ids has the size of a table for `MOST` ids.
 const MOST: usize = 1024;
 
-/// The maximum number of entries of the table.
+/// The maximum number of entries of a table of hashes.
 const PLACES: usize = MOST * PLACES_EACH;
 
 /// Returns the last eight bytes of a string, or all bytes of a shorter string.
@@ -39,7 +40,7 @@ fn place_of(id: &DocId, places: usize) -> usize
     place % places
 }
 
-/// Returns the number of table entries for a given number of ids.
+/// Returns the number of entries of the table of hashes for a list of `ids` document ids.
 fn places_for(ids: usize) -> usize
     ensures { 0 < result }
 {

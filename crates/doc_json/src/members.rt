@@ -144,8 +144,8 @@ fn with_special<'v, V: JsonValue<'v>>(
     }
 }
 
-/// Returns the member that was found before, if there is one. Otherwise, returns the given member if it has the name
-/// `wanted`.
+/// Returns `found`, unless `found` is `None`. If `found` is `None`, returns `member` if its name is `wanted`, and
+/// otherwise `None`.
 fn kept<'v, V: JsonValue<'v>>(
     found: Option<&'v V>,
     name: &str,

@@ -1,5 +1,5 @@
--- Defines the errors that an envelope avoids, as specified in docs/PROFILE.md, "Documents in envelopes" and "What
--- `read_doc` accepts".
+-- Defines which errors of `read_doc` an envelope cannot cause, as specified in docs/PROFILE.md, "Documents in
+-- envelopes" and "What `read_doc` accepts".
 use Rattle.std.specs.Prelude.{◌≡◌, ℕ, ◌||◌, List, Bool, true, false, cond, codes, is_some}
 use Rattle.std.specs.Str.{bytes_eq}
 use Rattle.serde_json.specs.Data.{Data, null, boolean, number, string, array, object, Members, no_members, member}

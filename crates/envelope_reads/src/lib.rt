@@ -1,4 +1,5 @@
-//! Proves that `doc_json` does not reject an envelope because of the members that the envelope wraps.
+//! Proves that `doc_json` never rejects an envelope with `Attachments`, `SpecialMember` or `Fraction`, the errors about
+//! members that the envelope wraps.
 #![tactic(auto)]
 
 mod read;

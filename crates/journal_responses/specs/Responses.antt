@@ -28,8 +28,9 @@ IsErrorOf error reason NotJson = ⊥
 IsErrorOf error reason Other = ⊥
 IsErrorOf error reason Memory = ⊥
 
--- The error for a JSON value that is not the requested response. The error is `Error` only for an error of CouchDB, and
--- `Other` only for other values. The error `Memory` (an allocation failed) is possible for every JSON value.
+-- The error for a JSON value that is not the requested response. The error is `Error` only if the JSON value is an
+-- error of CouchDB, and `Other` only if the JSON value is not an error of CouchDB. The error `Memory` (an allocation
+-- failed) is possible for every JSON value.
 abbrev pub IsSaid : Json → Said → Type 0
 IsSaid j (Error error reason) = error_in j ≡ Some (string_bytes error, string_bytes reason)
 IsSaid j NotJson = ⊥

@@ -125,15 +125,16 @@ fn rows_of(alloc: Global, items: &Vec<Value<'_>>) -> Result<Option<Vec<Leaves>>,
     Ok(Some(rows))
 }
 
-/// Whether the call prints a state line for a row of changes. If `several` is true, the call prints only rows with two
-/// or more leaves.
+/// Whether a row of changes is printed as a journal's `state` line. If `several` is true, only rows of changes with two
+/// or more leaves are printed.
 fn is_printed(several: bool, row: &Leaves) -> bool
     ensures { result ≡ is_printed several (leaves_view row.now) }
 {
     if several { row.revs.len() >= 2 } else { true }
 }
 
-/// Appends the state line of a row of changes, if the row is printed.
+/// Appends the journal's `state` line for a row of changes, unless `several` is true and the row has fewer than two
+/// leaves.
 fn push_row(
     alloc: Global,
     text: &mut Vec<u8>,
@@ -230,8 +231,8 @@ fn push_last(text: &mut Vec<u8>, rows: usize, last: &str, pending: &str) -> Resu
     Ok(())
 }
 
-/// Appends a state line for each row of a page, and then the last line of the page's text. If `several` is true, only
-/// rows with two or more leaves have a state line.
+/// Appends a journal's `state` line for each row of a page, and then the last line of the page's text. If `several` is
+/// true, appends `state` lines only for rows with two or more leaves.
 fn push_page(
     alloc: Global,
     text: &mut Vec<u8>,
@@ -249,14 +250,14 @@ fn push_page(
     )
 }
 
-/// Appends a state line for each row of a page of changes. If `several` is true, only a row with two or more leaves has
-/// a state line. The last line of a page has the number of rows, the last sequence, and the number of documents after
-/// the page.
+/// Appends a journal's `state` line for each row of a page of changes. If `several` is true, appends `state` lines only
+/// for rows with two or more leaves. The last line of a page has the number of rows, the last sequence, and the number
+/// of documents after the page.
 ///
 /// # Errors
 ///
 /// Returns `Error` if the value is an error of CouchDB, or `Other` if the value is neither a page nor an error. Returns
-/// `Memory` if an allocation failed. If the call returns an error, it may have appended a part of the page's text.
+/// `Memory` if an allocation failed. After an error, a part of the page's output may be in the buffer `text`.
 pub fn page_of(
     alloc: Global,
     text: &mut Vec<u8>,

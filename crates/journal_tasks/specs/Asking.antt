@@ -16,8 +16,8 @@ asked_items begun [] = []
 asked_items begun (leaf ∷ leaves) =
     (if begun then codes "," else codes "{\"docs\":[") ++ asked_leaf leaf ++ asked_items true leaves
 
--- Whether a request has begun after the items for `leaves` were added: the request had begun before, or there are
--- leaves.
+-- Whether a `_bulk_get` request is not empty after items for `leaves` were added: the request was not empty before
+-- (`begun`), or `leaves` is not empty.
 abbrev pub has_begun : Bool → List (List ℕ × List ℕ) → Bool
 has_begun begun [] = begun
 has_begun begun (leaf ∷ leaves) = true
@@ -26,7 +26,8 @@ has_begun begun (leaf ∷ leaves) = true
 abbrev pub ask_body : List (List ℕ × List ℕ) → List ℕ
 ask_body leaves = asked_items false leaves ++ (if has_begun false leaves then codes "]}\n" else [])
 
--- A task has read the given lines of a list, and has appended the items for the leaves that these lines name.
+-- The task `ask` has read `lines`, the first lines of a list, and has appended a `_bulk_get` item for each leaf in
+-- `lines`.
 pub record IsAsking (lines : List (List ℕ)) (text : List ℕ) (ask : Ask) : Type 0 where
   pub counting : IsCounting is_wrong lines ask.count
   pub begun : ask.begun ≡ has_begun false (leaves_in lines)

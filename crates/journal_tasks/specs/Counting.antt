@@ -4,18 +4,18 @@ use Rattle.std.specs.Option.{option_or}
 use Rattle.journal_core.specs.Wrong.{first_index}
 use Rattle.journal_tasks.specs.declared.count.Count.{Count}
 
--- The number of the first wrong line, if the line with the number `number` is wrong. The argument `before` is the
--- number of the first wrong line among the lines before the line `number`, if such a line is wrong.
+-- The number of an input's first wrong line, which is `before`, or `number` if `before` is `None`. Line `number` is
+-- wrong, and `before` is the number of the first wrong line before line `number`, or `None`.
 abbrev pub failed : Option ℕ → ℕ → Option ℕ
 failed before number = option_or before (Some number)
 
--- The number of the first wrong line of an input that has `count` lines and then the bytes `rest`. The number of the
--- first wrong line among the `count` lines is `before`.
+-- The number of the first wrong line of an input that has `count` complete lines and then the bytes `rest`. The
+-- argument `before` is the number of the first wrong line among the input's complete lines, or `None`.
 abbrev pub failed_end : Option ℕ → ℕ → List ℕ → Option ℕ
 failed_end before count rest = if nat_eq (length rest) 0 then before else failed before (count + 1)
 
--- A task's count of lines, after the task has checked the line that it counted last. If this line is wrong, and no
--- earlier line was wrong, the count records this line as the first wrong line.
+-- A task's line count after the task has checked the line that it counted last. The argument `wrong` says whether the
+-- line that was counted last is wrong. The line count keeps the number of the first wrong line.
 abbrev pub counted_as : Bool → Count → Count
 counted_as wrong count = if wrong then record { lines = count.lines; wrong = failed count.wrong count.lines } else count
 

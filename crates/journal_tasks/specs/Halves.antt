@@ -5,12 +5,12 @@ use Rattle.std.specs.List.{list_any}
 abbrev pub is_empty_line : List ℕ → Bool
 is_empty_line line = nat_eq (length line) 0
 
--- The lines before the first empty line.
+-- The lines of an input before the input's first empty line.
 abbrev pub first_part : List (List ℕ) → List (List ℕ)
 first_part [] = []
 first_part (line ∷ lines) = if is_empty_line line then [] else line ∷ first_part lines
 
--- The lines after the first empty line.
+-- The lines of an input after the input's first empty line.
 abbrev pub second_part : List (List ℕ) → List (List ℕ)
 second_part [] = []
 second_part (line ∷ lines) = if is_empty_line line then lines else second_part lines

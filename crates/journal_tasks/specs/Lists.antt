@@ -2,14 +2,14 @@
 use Rattle.std.specs.Prelude.{ℕ, Bool, true, false, List, [], ◌∷◌, map, flat_map}
 use Rattle.journal_lines.specs.Entries.{EntryView, entry_in, state, lacks, leaf, wrong}
 
--- The leaves that a line of a list names, each with the id of its document.
+-- The leaves in a line of a list of leaves, each with the id of its document.
 abbrev pub listed : EntryView → List (List ℕ × List ℕ)
 listed (state leaves) = map (λ rev. (leaves.1, rev)) leaves.2
 listed (lacks leaves) = map (λ rev. (leaves.1, rev)) leaves.2
 listed (leaf head) = (head.0, head.1.0) ∷ []
 listed wrong = []
 
--- The leaves that the lines of a list name, in order.
+-- The leaves in all lines of a list of leaves, in order, each with the id of its document.
 abbrev pub leaves_in : List (List ℕ) → List (List ℕ × List ℕ)
 leaves_in lines = flat_map (λ line. listed (entry_in line)) lines
 

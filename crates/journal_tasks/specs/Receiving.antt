@@ -1,4 +1,4 @@
--- Defines which requested revisions were received, and what is printed.
+-- Defines which requested revisions were received, and the output of the task `receive_leaves`.
 use Rattle.std.specs.Prelude.{◌≡◌, ℕ, Bool, true, false, ◌&&◌, ◌||◌, not, if◌then◌else◌, is_none, is_some, List, [], ◌∷◌, ◌++◌, length, nat_eq, filter, flat_map, fold, map, Option, None, Some, option_map, unwrap_or, bytes_eq, codes, String, string_bytes}
 use Rattle.std.specs.Global.{Global}
 use Rattle.std.specs.HashMap.{get_by_text}
@@ -16,25 +16,25 @@ use Rattle.journal_tasks.specs.declared.received.Wanted.{Wanted}
 
 -- ---- the contents of a request and of a response
 
--- The leaves that a line of a request names.
+-- The leaves that are requested in one line of a request.
 abbrev pub named : EntryView → List LeavesView
 named (state leaves) = leaves ∷ []
 named (lacks leaves) = leaves ∷ []
 named (leaf head) = []
 named wrong = []
 
--- The leaves that the lines of a request name, in order.
+-- The leaves that are requested in each line of a request, in order.
 abbrev pub requested_in : List (List ℕ) → List LeavesView
 requested_in lines = flat_map (λ line. named (entry_in line)) lines
 
--- The head (id and leaf) of the document in a line of a response, if the line has a document.
+-- The id and the leaf of the document in a line of a response, if the line has a document.
 abbrev pub head_of : EntryView → List HeadView
 head_of (state leaves) = []
 head_of (lacks leaves) = []
 head_of (leaf head) = head ∷ []
 head_of wrong = []
 
--- The heads of the documents in the lines of a response, in order.
+-- The ids and leaves of the documents in the lines of a response, in order.
 abbrev pub heads_in : List (List ℕ) → List HeadView
 heads_in lines = flat_map (λ line. head_of (entry_in line)) lines
 
@@ -85,17 +85,17 @@ wrong_received lines rest = wrong_line (λ wrong. wrong) (wrong_flags lines) res
 abbrev pub passed_line : Bool → List LeavesView → List ℕ → List ℕ
 passed_line only requested line = if is_answer requested (entry_in line) && not only then line ++ codes "\n" else []
 
--- The text that is printed before the end of the input: the response's lines with requested documents, unless `only` is
--- true.
+-- The text that `receive_leaves` prints before the input's end, which is the lines of the response with requested
+-- documents, or empty if `only` is true.
 abbrev pub passed_on : Bool → List (List ℕ) → List ℕ
 passed_on only lines = flat_map (passed_line only (requested_in (first_part lines))) (second_part lines)
 
 abbrev pub is_empty : List (List ℕ) → Bool
 is_empty revs = nat_eq (length revs) 0
 
--- The lines that the task prints for one line of the request, which requests the leaves `leaves`. The argument
--- `missing` lists those of the leaves in `leaves` that were not received. The argument `received` lists the received
--- leaves of the document of `leaves`.
+-- The lines that `receive_leaves` prints for one line of the request, which requests the leaves `leaves` of a document.
+-- The argument `missing` lists the requested leaves in `leaves` that were not received. The argument `received` lists
+-- all leaves that were received of the document to which the leaves `leaves` belong.
 abbrev pub told_of : Bool → List (List ℕ) → List (List ℕ) → LeavesView → List ℕ
 told_of true received missing leaves =
     if is_empty missing then [] else leaves_line (codes "state") leaves.0 leaves.1 missing
@@ -108,7 +108,7 @@ told_of false received missing leaves =
 abbrev pub told : Bool → List HeadView → LeavesView → List ℕ
 told only heads leaves = told_of only (received_leaves heads leaves.1) (missing_in heads leaves) leaves
 
--- The lines for the request, which are printed at the end of the input if no line is wrong.
+-- The lines that `receive_leaves` prints at the input's end for the lines of the request, if every input line is right.
 abbrev pub told_in : Bool → List (List ℕ) → List ℕ
 told_in only lines = flat_map (told only (heads_in (second_part lines))) (requested_in (first_part lines))
 
@@ -117,7 +117,8 @@ abbrev pub lacks_any : List (List ℕ) → Bool
 lacks_any lines =
     list_any (λ leaves. not (is_empty (missing_in (heads_in (second_part lines)) leaves))) (requested_in (first_part lines))
 
--- The output for the complete input. If a line is wrong, the lines for the request are not printed.
+-- The output for the complete input. If an input line is wrong, `receive_leaves` prints no lines about the request
+-- (`told_in`).
 abbrev pub received_text : Bool → List (List ℕ) → List ℕ → List ℕ
 received_text only lines rest =
     passed_on only lines ++ (if is_none (wrong_received lines rest) then told_in only lines else [])
@@ -145,36 +146,38 @@ doc_at docs id = option_map doc_view (get_by_text docs id)
 abbrev pub doc_or_new : Option DocView → DocView
 doc_or_new doc = unwrap_or doc ([], [])
 
--- The new data about a requested revision when the task receives the leaf `arrived`. The requested revision counts as
--- received if it was received before, or if it is the leaf `arrived` or an ancestor of this leaf.
+-- The data that `receive_leaves` stores for a requested revision after it has received the leaf `arrived`. The
+-- requested revision counts as received if it was received before, or if it is the leaf `arrived` or an ancestor of
+-- this leaf.
 abbrev pub received_by : LeafView → WantedView → WantedView
 received_by arrived wanted = (wanted.0, wanted.1 || knows_rev arrived wanted.0)
 
--- The new data about a document when the task reads that the document's revisions `revs` are requested.
+-- The data that `receive_leaves` stores for a document after it has read a request for the document's revisions `revs`.
 abbrev pub with_wanted : List (List ℕ) → DocView → DocView
 with_wanted revs doc = (doc.0 ++ map (λ rev. (rev, false)) revs, doc.1)
 
--- The new data about a document when the task receives the document's leaf `arrived`.
+-- The data that `receive_leaves` stores for a document after it has received the document's leaf `arrived`.
 abbrev pub with_leaf : LeafView → DocView → DocView
 with_leaf arrived doc = (map (received_by arrived) doc.0, add_rev doc.1 arrived.0)
 
--- The new data about each document `id` when the task reads that the leaves `leaves` of one document are requested.
+-- The data that `receive_leaves` stores for the document `id` after it has read a request line with the leaves `leaves`
+-- of one document.
 abbrev pub wanted_at : LeavesView → (List ℕ → Option DocView) → List ℕ → Option DocView
 wanted_at leaves docs id =
     if bytes_eq leaves.1 id then Some (with_wanted leaves.2 (doc_or_new (docs leaves.1))) else docs id
 
--- The new data about each document `id` when the task reads a line of the request.
+-- The data that `receive_leaves` stores for the document `id` after it has read one line of the request.
 abbrev pub requested_by : EntryView → (List ℕ → Option DocView) → List ℕ → Option DocView
 requested_by (state leaves) docs id = wanted_at leaves docs id
 requested_by (lacks leaves) docs id = wanted_at leaves docs id
 requested_by (leaf head) docs id = docs id
 requested_by wrong docs id = docs id
 
--- The new data about each document `id` when the task receives a leaf of one document.
+-- The data that `receive_leaves` stores for the document `id` after it has received the leaf `head` of some document.
 abbrev pub leaf_at : HeadView → (List ℕ → Option DocView) → List ℕ → Option DocView
 leaf_at head docs id = if bytes_eq head.0 id then option_map (with_leaf head.1) (docs head.0) else docs id
 
--- The new data about each document `id` when the task reads a line of the response.
+-- The data that `receive_leaves` stores for the document `id` after it has read one line of the response.
 abbrev pub answered_by : EntryView → (List ℕ → Option DocView) → List ℕ → Option DocView
 answered_by (state leaves) docs id = docs id
 answered_by (lacks leaves) docs id = docs id
@@ -196,8 +199,8 @@ is_marked wanted rev = list_any (λ item. item.1 && bytes_eq item.0 rev) wanted
 abbrev pub unmarked : List WantedView → List (List ℕ) → List (List ℕ)
 unmarked wanted revs = filter (λ rev. not (is_marked wanted rev)) revs
 
--- The lines that the task prints for one line of the request, which requests the leaves `leaves`. The task prints these
--- lines if it has stored the data `doc` for the document of `leaves`.
+-- The lines that `receive_leaves` prints for one line of the request, which requests the leaves `leaves` of a document.
+-- The argument `doc` is the data that `receive_leaves` has stored for the document to which the leaves `leaves` belong.
 abbrev pub told_by : Bool → Option DocView → LeavesView → List ℕ
 told_by only None leaves = []
 told_by only (Some doc) leaves = told_of only doc.1 (unmarked doc.0 leaves.2) leaves
@@ -208,7 +211,7 @@ abbrev pub lacks_by : Option DocView → LeavesView → Bool
 lacks_by None leaves = false
 lacks_by (Some doc) leaves = not (is_empty (unmarked doc.0 leaves.2))
 
--- The revisions of a document that the lines of a request name.
+-- The revisions of the document `id` that are requested by the lines of a request, in order.
 abbrev pub wanted_revs : List LeavesView → List ℕ → List (List ℕ)
 wanted_revs requested id = flat_map (λ leaves. if bytes_eq leaves.1 id then leaves.2 else []) requested
 
@@ -226,8 +229,9 @@ pub record IsReceiving (only : Bool) (lines : List (List ℕ)) (text : List ℕ)
   pub docs_are : (id : List ℕ) → doc_at task.docs id ≡ doc_of (requested_in (first_part lines)) (heads_in (second_part lines)) id
   pub text_is : text ≡ passed_on only lines
 
--- The task has read the complete input: the output is complete, and the number of the first wrong line is known. If no
--- line is wrong, the task also knows whether a requested revision was not received.
+-- The task has read the complete input: the output is complete, and the number of the first wrong line is known. If
+-- every input line is right, the field `lacks` of the task `receive_leaves` says whether a requested revision was not
+-- received.
 pub record HasReceived (only : Bool) (lines : List (List ℕ)) (rest text : List ℕ) (task : Received) : Type 0 where
   pub text_is : text ≡ received_text only lines rest
   pub wrong : task.count.wrong ≡ wrong_received lines rest

@@ -11,8 +11,7 @@ use std::alloc::{AllocError, Global};
 
 /// The task's input is a first list of leaves, an empty line, and a second list of leaves. For each line of the second
 /// list of leaves, the task prints the leaves that the first list of leaves does not have. With the option `documents`,
-/// the task prints the documents that the second list of leaves has and the first list of leaves does not have, with
-/// all their leaves.
+/// the task prints all leaves of each line of the second list whose document is not in the first list.
 ///
 /// The task holds in memory the first of the two lists of leaves in its input.
 #[derive(Drop)]
@@ -59,8 +58,8 @@ impl Compare {
         Ok(())
     }
 
-    /// Appends the output (which may be empty) that the task prints for one line of the second list of leaves in its
-    /// input.
+    /// Appends the output for one line of the second of the two compared lists of leaves. The output for a line may be
+    /// empty.
     fn push(&self, text: &mut Vec<u8>, leaves: Leaves) -> Result<(), AllocError> {
         let Leaves { seq, id, revs } = leaves;
         if self.documents && self.docs.contains_key(id.as_str()) {
@@ -85,7 +84,7 @@ impl Compare {
         )
     }
 
-    /// Reads a line of the first list of leaves in the task's input.
+    /// Reads a line of the first of the two lists of leaves that the task compares.
     fn first_line(&mut self, line: &[u8]) -> Result<(), AllocError> {
         if !add_entry(self.alloc, &mut self.scratch, &mut self.docs, line)? {
             self.count.fail();
@@ -96,7 +95,7 @@ impl Compare {
         }
     }
 
-    /// Reads a line of the second list of leaves in the task's input.
+    /// Reads a line of the second of the two lists of leaves that the task compares.
     fn second_line(&mut self, line: &[u8], text: &mut Vec<u8>) -> Result<(), AllocError> {
         match entry_of(self.alloc, &mut self.scratch, line)? {
             Entry::State(leaves) | Entry::Lacks(leaves) => self.push(text, leaves),

@@ -9,9 +9,9 @@ use line_reader::{LineTask, run_task};
 use script_engine::{ScriptFault, ScriptRead, ScriptWrite};
 use std::alloc::{AllocError, Global};
 
-/// Prints the size and the last block of the longest prefix of a journal that the journal's checksums confirm. The task
-/// also prints the `lacks` lines of the confirmed prefix, each of which names a document that still lacks leaves. If
-/// the task is given a sequence, the prefix ends at the last block of this sequence.
+/// Prints the size and the last block of the longest prefix of a journal that the journal's checksums confirm. For each
+/// document of which the confirmed prefix lacks requested leaves, the task prints the document's last `lacks` line. If
+/// the task is given a sequence, it reports the journal only up to the last confirmed block that has this sequence.
 ///
 /// The task holds in memory one block, and the lines that the task prints.
 #[derive(Drop)]
@@ -144,7 +144,8 @@ impl Confirm {
         }
     }
 
-    /// Records a confirmed block of `held` documents.
+    /// Records that the checksums confirm a block of the journal. The argument `held` is the number of documents in the
+    /// confirmed block.
     fn settle_block(&mut self, body: &[u8], held: u64) -> Result<(), AllocError> {
         self.leaves = added(self.leaves, held)?;
         self.held = 0;
@@ -183,8 +184,8 @@ impl LineTask for Confirm {
 }
 
 /// Reads a journal, finds the part that the journal's checksums confirm, and writes a report about this part. If the
-/// caller gives a sequence, the report ends at the last confirmed block whose sequence is the given sequence, or begins
-/// with the given sequence and `-`. If no confirmed block has such a sequence, there is no output.
+/// caller gives a sequence `at`, the report ends at the last confirmed block whose sequence equals `at` or begins with
+/// `at` and `-`. If no confirmed block matches a given sequence `at`, the output is empty.
 ///
 /// # Errors
 ///

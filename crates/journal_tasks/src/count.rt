@@ -29,7 +29,7 @@ impl Count {
     ///
     /// # Errors
     ///
-    /// Returns an error if the count is at its maximum.
+    /// Returns an error if the number of lines is already at its maximum.
     pub(crate) fn add(&mut self) -> Result<(), AllocError>
         ensures { OnOk result (self.new ≡ record { lines = self.old.lines + 1; wrong = self.old.wrong }) }
     {
@@ -46,7 +46,7 @@ impl Count {
         }
     }
 
-    /// Records whether the last counted line has the right form.
+    /// Records that the line that the task read last has a wrong form, unless `right` is true.
     pub(crate) fn check(&mut self, right: bool)
         ensures { self.new ≡ counted_as (not right) self.old }
     {
@@ -55,11 +55,12 @@ impl Count {
         }
     }
 
-    /// If there are bytes after the last line end, records that the last line has a wrong form.
+    /// Records that the input's last line has a wrong form, if the input has bytes after its last line end.
     ///
     /// # Errors
     ///
-    /// Returns an error if there are bytes after the last line end, and the count is at its maximum.
+    /// Returns an error if the input has bytes after its last line end, and the number of lines is already at its
+    /// maximum.
     pub(crate) fn end(&mut self, rest: &[u8]) -> Result<(), AllocError>
         ensures { OnOk result (self.new.wrong ≡ failed_end self.old.wrong self.old.lines rest.now) }
     {

@@ -10,10 +10,10 @@ use line_reader::LineTask;
 use std::alloc::{AllocError, Global};
 use std::str;
 
-/// The task's input is a list, an empty line and the response of `_revs_diff`. The task prints a state line for each
-/// document of the list that has missing leaves.
+/// The task's input is a list of leaves, an empty line and a `_revs_diff` response. The task prints a `state` line for
+/// each document of which the `_revs_diff` response names leaves as missing.
 ///
-/// The task holds the list and the response in memory.
+/// The task holds in memory the list of leaves and the `_revs_diff` response.
 #[derive(Drop)]
 pub struct Lacking {
     alloc: Global,
@@ -105,14 +105,15 @@ impl Lacking {
         self.count.wrong
     }
 
-    /// Returns true if the second part of the input is missing or is not a `_revs_diff` response, and also if the
-    /// response names a leaf that is not in the list.
+    /// Whether the input has no valid `_revs_diff` response after an empty line. A `_revs_diff` response is invalid if
+    /// it names a leaf that is not in the input's list of leaves. If a line of the list of leaves is wrong, the task
+    /// does not check the `_revs_diff` response.
     pub fn is_refused(&self) -> bool {
         self.refused
     }
 
-    /// Returns the missing leaves that the response names. Returns `None` if the text is not a `_revs_diff` response,
-    /// or if the response names a leaf that is not in the list.
+    /// Returns the missing leaves that the response names. Returns `None` if the input has no valid `_revs_diff`
+    /// response, or if the response names a leaf that is not in the input's list of leaves.
     fn missing(&mut self) -> Result<Option<Docs>, AllocError> {
         let Ok(text) = str::from_utf8(self.response.as_slice()) else {
             return Ok(None);
@@ -124,7 +125,7 @@ impl Lacking {
         }
     }
 
-    /// Appends the state lines of the documents that have missing leaves.
+    /// Appends a `state` line for each document of which the `_revs_diff` response names leaves as missing.
     fn push(&self, text: &mut Vec<u8>, missing: &Docs) -> Result<(), AllocError> {
         for index in 0..self.docs.len() {
             if let Some((id, revs)) = self.docs.get_index(index) {
@@ -134,7 +135,8 @@ impl Lacking {
         Ok(())
     }
 
-    /// Appends the state line of a document, if the document has missing leaves.
+    /// Appends a document's `state` line with the leaves that the `_revs_diff` response names as missing, if there are
+    /// such leaves.
     fn push_doc(
         &self,
         text: &mut Vec<u8>,

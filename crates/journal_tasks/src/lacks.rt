@@ -1,13 +1,13 @@
-//! Finds the documents of a journal that still lack leaves.
+//! Finds the documents of which a journal does not have all requested leaves.
 use indexmap::IndexMap;
 use journal_lines::{Entry, entry_of};
 use json::Scratch;
 use memchr::memchr;
 use std::alloc::{AllocError, Global};
 
-/// A table of documents that still lack leaves. For each document, the table has the document's last `lacks` line,
-/// unless a later line is a `state` line of the same document. A `lacks` line says that not all requested leaves of a
-/// document were received.
+/// A table of the documents of which a journal does not have all requested leaves. The table of documents has each
+/// document's last `lacks` line, unless a `state` line of the document follows in the journal. A `lacks` line says that
+/// not all requested leaves of a document were received.
 #[derive(Drop)]
 pub(crate) struct Lacks {
     alloc: Global,
@@ -36,9 +36,9 @@ impl Lacks {
         self.note_entry(&entry, line)
     }
 
-    /// Reads a `state` line or a `lacks` line. For a `state` line, the call removes the table's line about the same
-    /// document. For a `lacks` line, the call also removes the table's line about the same document, and then adds the
-    /// `lacks` line to the table.
+    /// Reads a `state` line or a `lacks` line of a journal. A `state` line removes the `lacks` line of its document
+    /// from the table of `lacks` lines. A `lacks` line is added at the end of the table of `lacks` lines, instead of an
+    /// earlier `lacks` line of its document.
     fn note_entry(&mut self, entry: &Entry, line: &[u8]) -> Result<(), AllocError> {
         match entry {
             Entry::State(leaves) => {

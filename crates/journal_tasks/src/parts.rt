@@ -23,7 +23,8 @@ pub struct Parts {
 }
 
 impl Parts {
-    /// Creates the task with the maximum numbers of bytes and of lines of a part.
+    /// Creates the task that splits its input into parts of at most `most_bytes` bytes and `most_lines` lines. A line
+    /// that alone exceeds a maximum is a part by itself.
     pub fn new(alloc: Global, most_bytes: u64, most_lines: u64) -> Parts {
         Parts {
             alloc,
@@ -40,7 +41,7 @@ impl Parts {
         self.count.wrong
     }
 
-    /// Whether a line of the given length does not fit into the current part.
+    /// Whether the part that the task is collecting has a line, and no space for a further line of `line` bytes.
     fn is_full(&self, line: usize) -> bool {
         let bytes = self.part.len() as u64;
         self.lines > 0
@@ -48,7 +49,8 @@ impl Parts {
                 || bytes.saturating_add(line as u64).saturating_add(1) > self.most_bytes)
     }
 
-    /// Appends the current part to the text, and begins the next part.
+    /// Appends the collected part of the input to the output `text`, after a line with the part's numbers of lines and
+    /// bytes. Empties the collected part, so that the task can collect the next part of its input.
     fn push(&mut self, text: &mut Vec<u8>) -> Result<(), AllocError> {
         let mut digits = Buffer::new();
         text.extend_from_slice(b"part ".as_slice())?;

@@ -185,7 +185,7 @@ fn want(alloc: Global, docs: &mut Docs, leaves: &Leaves) -> Result<(), AllocErro
     put(alloc, docs, leaves.id.as_str(), doc)
 }
 
-/// Reads a line of the request. Returns whether the line has the form of a line of the request.
+/// Reads a line of the request. Returns false if a line of the request is neither a `state` line nor a `lacks` line.
 fn request(
     alloc: Global,
     docs: &mut Docs,
@@ -373,7 +373,8 @@ impl Received {
         Ok(())
     }
 
-    /// Appends the lines for all lines of the request. Returns whether a requested revision was not received.
+    /// Appends the `state` and `lacks` lines of the output for all lines of the request. Returns whether a requested
+    /// revision was not received.
     fn push_all(&self, text: &mut Vec<u8>) -> Result<bool, AllocError>
         ensures text { OnOk result (text.new.items ≡ text.old.items
             ++ flat_map (λ leaves. told_by self.now.only_lacks (doc_at self.now.docs leaves.1) leaves) (map leaves_view self.now.lines.items)) }

@@ -24,9 +24,9 @@ pub struct Filter {
     pub unverified: bool,
 }
 
-/// The task's input is one journal, given twice. For each leaf in a document's last state, the task prints the last
-/// line of the journal that has this leaf. The task has no output unless the checksums confirm the journal's first
-/// copy.
+/// The task's input is two copies of one journal. For each leaf in a document's last state, the task prints the last
+/// line of the journal that has this leaf. The task prints lines only if the journal's checksums confirm the first copy
+/// in the input, or if the option `unverified` is set.
 ///
 /// The task holds in memory one block, the state of each document, and one entry for each leaf.
 #[derive(Drop)]
@@ -83,8 +83,9 @@ impl Select {
         self.blocks.lines()
     }
 
-    /// Whether the journal's first copy does not consist of `size` bytes in complete lines, or has a part that no right
-    /// checksum confirms. If the task ignores checksums (`unverified`), only the size matters.
+    /// Whether the first copy of the journal in the input is damaged. A journal's copy is damaged unless it has exactly
+    /// `size` bytes in complete lines, all of which the journal's checksums confirm. With the option `unverified`, the
+    /// task checks only the size of the journal's copy, and not its checksums.
     pub fn is_damaged(&self) -> bool {
         self.damaged
     }
@@ -114,7 +115,7 @@ impl Select {
         Ok(())
     }
 
-    /// Reads a line of the journal's first copy. The line is not a checksum line (the line that ends a block).
+    /// Reads a line, other than a `sum` line (the end of a block), of the first copy of the journal in the input.
     fn note(&mut self, line: &[u8]) -> Result<(), AllocError> {
         match entry_of(self.alloc, &mut self.scratch, line)? {
             Entry::State(leaves) => self.map.name(leaves),
@@ -127,7 +128,7 @@ impl Select {
         }
     }
 
-    /// Reads a line of the journal's first copy.
+    /// Reads a line of the first copy of the journal in the input, which may be a `sum` line.
     fn first_line(&mut self, line: &[u8]) -> Result<(), AllocError> {
         if !self.filter.unverified {
             if let Took::Damaged = self.blocks.take(line)? {
@@ -144,7 +145,8 @@ impl Select {
         Ok(())
     }
 
-    /// Ends the first copy of the journal, and selects the lines that the task prints.
+    /// Checks the first copy of the journal in the input at its end, and selects the lines to print if the copy is not
+    /// damaged.
     fn end_first(&mut self) -> Result<(), AllocError> {
         if self.bytes != self.size || !self.filter.unverified && !self.blocks.is_confirmed() {
             self.damaged = true;
@@ -191,7 +193,8 @@ impl Select {
         Ok(())
     }
 
-    /// Reads a line of the journal's second copy, and appends the line to the output if the line is selected.
+    /// Reads a line of the second copy of the journal in the input, and appends the line to the output if the line is
+    /// selected.
     fn second_line(&mut self, line: &[u8], text: &mut Vec<u8>) -> Result<(), AllocError> {
         if self.selected.get(self.next).copied() != Some(self.count.lines) {
             return Ok(());

@@ -16,7 +16,7 @@ pub(crate) struct State {
     pub(crate) seq: String,
     /// The leaf revisions of the document.
     pub(crate) revs: Vec<String>,
-    /// Whether this state of a document was read from a `state` line of the journal.
+    /// Whether a document's state was read from a `state` line of the journal, and not collected from document lines.
     pub(crate) named: bool,
 }
 
@@ -146,13 +146,13 @@ impl States {
         self.blocks.lines()
     }
 
-    /// Whether the journal ends with an incomplete line, or has a line that no right checksum confirms. If the task
-    /// ignores checksums (`unverified`), the call only finds an incomplete last line.
+    /// Whether the journal ends with an incomplete line, or has a line that the journal's checksums do not confirm. If
+    /// the task ignores checksums (`unverified`), only an incomplete last line counts as damage.
     pub fn is_damaged(&self) -> bool {
         self.damaged
     }
 
-    /// Reads a line of the journal. The line is not a checksum line (the line that ends a block).
+    /// Reads a line of the journal, other than a `sum` line (the end of a block).
     fn note(&mut self, line: &[u8]) -> Result<(), AllocError> {
         match entry_of(self.alloc, &mut self.scratch, line)? {
             Entry::State(leaves) => self.map.name(leaves),

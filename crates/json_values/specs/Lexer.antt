@@ -1,5 +1,5 @@
--- Defines the state of the lexer that contracts use. The state is the JSON text from the next lexeme on, and flags that
--- say which of the read strings are known to need no escapes.
+-- Defines the state of the lexer in contracts: the JSON text from the next lexeme on, and the flags of `PlainTexts`.
+-- The flags of `PlainTexts` say which of the read strings are known to need no escapes.
 use Rattle.std.specs.Prelude.{◌≡◌, ℕ, ◌+◌, ◌≤◌, ◌==◌, Bool, List, length, drop, get_or, true}
 use Rattle.std.specs.List.{list_any}
 use Rattle.std.specs.Str.{IsUtf8}

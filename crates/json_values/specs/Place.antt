@@ -20,8 +20,8 @@ NotBeforeComma AfterValue text = head text ≢ 44
 NotBeforeComma AfterComma text = ⊤
 NotBeforeComma Failed text = ⊤
 
--- At every position at which a value may begin, the tokens of the text `old` are the token t and then the tokens of the
--- text `new`.
+-- If a value or a name may begin at the start of the text `old`, the token t is the first token of `old`. After its
+-- first token t, the text `old` has the tokens of the text `new` from the grammar position `place` on.
 abbrev pub Begins : List ℕ → Token → Place → List ℕ → Type 0
 Begins old t place new = (p : spec.Place) → may_begin p ≡ true → punctuate p (lex between old) ≡ t ∷ tokens_at place new
 
@@ -69,7 +69,7 @@ of_string (Token.boolean b) = false
 of_string Token.null = false
 of_string Token.bad = true
 
--- For every nesting depth, the remaining tokens of a JSON text do not begin a value.
+-- The tokens ts do not begin with a complete and valid JSON value, even if values may be nested to any depth.
 abbrev pub BeginsNoValue : List Token → Type 0
 BeginsNoValue ts = (depth : ℕ) → value depth ts ≡ None
 

@@ -29,7 +29,7 @@ abbrev mutual
   AreMembersPlain known no_members = ⊤
   AreMembersPlain known (member k d ms) = PlainIf known.names k × ArePlain known d × AreMembersPlain known ms
 
--- The flags `new` make no claim about names or values that the flags `old` do not make.
+-- Each flag that is true in `new` is also true in `old`.
 abbrev pub Narrows : PlainTexts → PlainTexts → Type 0
 Narrows old new = (new.names ≡ true → old.names ≡ true) × (new.values ≡ true → old.values ≡ true)
 

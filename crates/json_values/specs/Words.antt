@@ -11,12 +11,12 @@ use Rattle.serde_json.specs.Data.{Num}
 use Rattle.serde_json.specs.Read.{number_of}
 
 -- Reading the number or literal at index i of the text d gives the pair r: the token, and the index at which the search
--- for the next lexeme begins. If r is `None`, the number or literal is not valid.
+-- for the next lexeme begins. If the pair r is `None`, the text d has no valid number or literal at index i.
 abbrev pub WordAt : List ℕ → ℕ → Option (Token × ℕ) → spec.Token → Type 0
 WordAt d i r w =
     MatchOption r (w ≡ bad) (λ p. (w ≡ token_of p.0) × (is_good w ≡ true) × (i < p.1) × (p.1 ≤ length d) × (lex between (drop p.1 d) ≡ drop 1 (lex between (drop i d))))
 
--- The text `name` is a JSON literal: the lexer reads it as one token if no further character of a literal follows.
+-- The text `name` is a JSON literal: if a delimiter or the text's end follows, the lexer reads `name` as one lexeme.
 abbrev pub IsLiteral : List ℕ → spec.Token → Type 0
 IsLiteral name t = (0 < length name) × (is_good t ≡ true) × ((r : List ℕ) → ends_word r ≡ true → lex between r ≡ drop 1 (lex between (name ++ r)))
 

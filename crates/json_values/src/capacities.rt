@@ -3,7 +3,8 @@ ghost use Rattle.std.specs.Prelude.{◌<◌};
 
 use std::cell::Cell;
 
-/// A table of eight lengths, each of which is 8. Most arrays and objects have at most 8 elements.
+/// The table of capacities at the start of a text: eight lengths, each of which is 8. Most arrays and objects have at
+/// most 8 elements.
 const FIRST: u64 = 0x0808_0808_0808_0808;
 
 /// A text of at least `LONG_TEXT` bytes is long. For a long text, saving memory is worth some additional instructions.
@@ -12,20 +13,20 @@ pub(crate) const LONG_TEXT: usize = 128 * 1024;
 /// The maximum initial capacity.
 const MOST: usize = 16;
 
-/// The lengths of the arrays and objects that were read last, by kind and nesting depth. Depths that are equal modulo 4
-/// share an entry.
+/// A table of the lengths of the arrays and objects that were read last, by kind and nesting depth. Nesting depths that
+/// are equal modulo 4 share one length in the table.
 ///
 /// In a line of many small objects, objects of the same depth usually have the same number of members. If the initial
 /// capacity of an object is the length of the last object of the same depth, the object usually takes no more memory
 /// than it needs. No contract states the initial capacity of an array or an object.
 #[derive(Drop)]
 pub(crate) struct Capacities {
-    /// The eight lengths of the table, each stored in one byte.
+    /// The eight lengths in a table of capacities, each stored in one byte of an integer.
     last: Cell<u64>,
 }
 
 impl Capacities {
-    /// Creates a table in which each length is 8.
+    /// Creates a table of capacities in which the last length for each kind and nesting depth is 8.
     #[inline(always)]
     pub(crate) fn new() -> Capacities {
         Capacities {
@@ -48,7 +49,7 @@ impl Capacities {
     }
 }
 
-/// Returns the position of a length in the table. The position is counted in bits.
+/// Returns the bit index of the length that a table of capacities has for a kind (array or object) and a nesting depth.
 #[inline(always)]
 fn shift_of(is_object: bool, depth: usize) -> u32
     ensures { result < 64 }

@@ -158,8 +158,8 @@ impl<'a> Lexer<'a> {
         Some(&text[start..stop])
     }
 
-    /// Reads the content of a string with escapes. The content begins with bytes that need no unescaping. The argument
-    /// `after` is the byte that follows these bytes, or a space at the end of the text.
+    /// Reads the content of a string with escapes. The argument `after` is the first backslash or control byte after
+    /// the opening quotation mark, or a space if the text ends first.
     #[inline(never)]
     fn escaped_string(&mut self, after: u8) -> Option<&'a str>
         requires quote { head self.old.text ≡ 34 }

@@ -13,7 +13,8 @@ use crate::plain_texts::PlainTexts;
 use std::marker::Model;
 
 /// A line that was read: a JSON value, and flags that say which of its strings are known to need no escapes. Contract
-/// clauses describe the line by the value. The members of each object in the line are in byte order of their names.
+/// clauses describe a `Line` by its JSON value. The members of each object in the line are in byte order of their
+/// names.
 #[derive(Drop)]
 pub struct Line<'a> {
     value: LineValue<'a>,
@@ -95,7 +96,7 @@ impl<'a> Line<'a> {
     }
 }
 
-/// A JSON value inside a line. Contract clauses describe the `LinePart` by this value. The members of each object in
+/// A JSON value inside a line. Contract clauses describe a `LinePart` by its JSON value. The members of each object in
 /// the line are in byte order of their names.
 #[derive(Drop)]
 pub struct LinePart<'v, 'a> {
@@ -140,10 +141,12 @@ impl<'v, 'a> LinePart<'v, 'a> {
         self.plain
     }
 
-    /// Returns the length of the complete line's text in bytes if the text is long, or 0 if the text is short. If each
-    /// number in the value is an i64 or a u64, the compact form of the value is at most as long as the text.
+    /// Returns the length of the complete line's text in bytes, or 0 if the text is shorter than `LONG_TEXT`. If each
+    /// number in a JSON value of the line is an i64 or a u64, the value's compact form is at most as long as the line's
+    /// text.
     ///
-    /// The length is only a capacity to reserve, so the contract states its bounds and not its value.
+    /// The contract of `long_len` states only bounds of the length, because callers use the length only to reserve
+    /// capacity.
     #[inline(always)]
     pub fn long_len(&self) -> usize
         ensures { (result ≡ 0) ⊎ (LONG_TEXT ≤ result) }

@@ -12,7 +12,7 @@ use std::cmp::Ordering;
 use std::collections::BTreeMap;
 use std::mem;
 
-/// A list with at least this number of members is converted to a map before a member is inserted out of order.
+/// The minimum length of a list of members that is converted to a map before a member is inserted out of order.
 const FEW: usize = 64;
 
 /// The members of an object, in which each name occurs once.
@@ -20,7 +20,7 @@ const FEW: usize = 64;
 pub(crate) enum Members<'a, T> {
     /// A list of members, which is used if the members are few or if they came in order of their names.
     Listed(Vec<(&'a str, T), &'a Bump>),
-    /// A map of members, which is used for many members that came out of order.
+    /// A map of members, which replaces a list of at least `FEW` members as soon as a member comes out of order.
     Mapped(BTreeMap<&'a str, T>),
 }
 
@@ -55,7 +55,8 @@ impl<'a, T: Drop> Members<'a, T> {
         }
     }
 
-    /// Whether the members are a list of at least `FEW` members, and a member with the given name would not come last.
+    /// Whether a list of members must become a map before a member is inserted. A list becomes a map if it has at least
+    /// `FEW` members, unless the new name is greater than all names in the list.
     #[inline(always)]
     fn is_full(&self, name: &str) -> bool
         requires { IsRising (entries_of self.now) }
@@ -156,7 +157,8 @@ fn move_last<'a, T>(entries: &mut Vec<(&'a str, T), &'a Bump>, place: usize)
     }
 }
 
-/// Compares two names by their bytes. The comparison begins with the first bytes, which usually differ.
+/// Compares two names by their bytes. The comparison begins with each name's first byte, because the first bytes
+/// usually differ.
 #[inline(always)]
 fn order_of(a: &str, b: &str) -> Ordering
     ensures { result ≡ slice_cmp nat_cmp a.now b.now }
@@ -175,7 +177,8 @@ fn order_of(a: &str, b: &str) -> Ordering
     }
 }
 
-/// Compares two names with the same first byte. The comparison begins with the second bytes, which usually differ.
+/// Compares two names with the same first byte. The comparison begins with each name's second byte, because the second
+/// bytes usually differ.
 #[inline(always)]
 fn order_behind(a: &str, b: &str) -> Ordering
     requires { (0 < length a.now) × (0 < length b.now) × (slice_index a.now 0 ≡ slice_index b.now 0) }
@@ -210,7 +213,8 @@ fn comes_last<T>(entries: &[(&str, T)], name: &str) -> bool
 }
 
 /// Returns `Ok` with the index of the member that has the given name, or `Err` with the index at which to insert a
-/// member with this name. The call searches from the end of the list, because the names usually come nearly in order.
+/// member with this name. The search begins at the end of the list of members, because an object's members usually come
+/// nearly in order of their names.
 #[inline(always)]
 fn place_of<T>(entries: &[(&str, T)], name: &str) -> Result<usize, usize>
     requires { IsRising entries.now }

@@ -13,7 +13,8 @@ pub struct PlainTexts {
 }
 
 impl PlainTexts {
-    /// Returns the flags after reading a string with escapes. The string is the name of a member or a value.
+    /// Clears the flag `names` after reading a member's name with escapes, or the flag `values` after reading any other
+    /// string with escapes.
     pub(crate) fn with_escaped(self, is_name: bool) -> PlainTexts
         ensures narrows { Narrows self result }
         ensures name { is_name ≡ true → result.names ≡ false }

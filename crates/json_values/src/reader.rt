@@ -19,8 +19,9 @@ use std::alloc::{AllocError, Global};
 /// The maximum nesting depth.
 const MAX_DEPTH: usize = 127;
 
-/// Reads JSON values, and reuses one buffer for all values. The buffer grows to the length of the longest text that was
-/// read, but does not grow for long texts without escapes. The result of a read does not depend on earlier reads.
+/// A reader of JSON values, which reuses one buffer for all values. If a text is longer than the buffer, the buffer
+/// grows to the text's length, except for texts of at least 128 KiB without a backslash. The result of a read does not
+/// depend on earlier reads.
 #[derive(Drop)]
 pub struct ValueReader {
     /// The buffer for unescaped strings.
@@ -83,7 +84,8 @@ fn make_room(room: &mut Vec<u8>, text: &str) -> Result<(), AllocError>
     Ok(())
 }
 
-/// Reads a text that is one JSON value, whose strings are slices of the text or of the buffer.
+/// Reads a text that must be one JSON value. The strings of the value are slices of the text or, if they had escapes,
+/// of the buffer `room`.
 fn read_whole<'a>(
     alloc: Global,
     values: &'a Bump,

@@ -192,8 +192,9 @@ pub fn is_plain(text: &[u8]) -> bool
     stops_16(u8x16::from_slice(&text[text.len() - 16..])) == 0
 }
 
-/// Does the same as `is_plain`, for fewer than sixteen bytes. The call tests the first and the last eight (or four)
-/// bytes, which may overlap.
+/// Does the same as `is_plain`, for fewer than sixteen bytes. In a text of nine to fifteen bytes, the call tests the
+/// first eight and the last eight bytes. In a text of four to eight bytes, the call tests the first four and the last
+/// four bytes.
 #[inline(always)]
 fn is_plain_short(text: &[u8]) -> bool
     requires { length text.now < 16 }

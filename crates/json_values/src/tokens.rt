@@ -33,7 +33,7 @@ pub(crate) enum Place {
 }
 
 impl Place {
-    /// Whether an array or an object may end at a given position in the JSON grammar.
+    /// Whether the JSON grammar allows the end of an array or object as the next token.
     #[inline(always)]
     fn may_close(self) -> bool
         ensures { result ≡ closes_at self }
@@ -41,7 +41,7 @@ impl Place {
         matches!(self, Place::Fresh | Place::AfterValue)
     }
 
-    /// Whether a value or a name may begin at a given position in the JSON grammar.
+    /// Whether the JSON grammar allows a value or a member's name as the next token.
     #[inline(always)]
     fn may_begin(self) -> bool
         ensures { result ≡ begins_at self }
@@ -56,7 +56,7 @@ pub(crate) struct Tokens<'a> {
     lexer: Lexer<'a>,
     place: Place,
     capacities: Capacities,
-    /// The last array that was stored in the arena, if the text is long.
+    /// The array that the reader of a long JSON text stored last, so that an equal next array can share its memory.
     last_array: Cell<&'a [LineValue<'a>]>,
 }
 
@@ -309,9 +309,10 @@ impl<'a> Tokens<'a> {
         true
     }
 
-    /// Returns the initial capacity of an array or object, before its first element is read. The capacity is 0 if the
-    /// array or object is empty. In a short text, the capacity is otherwise 8. In a long text, the capacity is the
-    /// length of the last array or object of the same kind and depth, but at most 16.
+    /// Returns the initial capacity of an array or object, before its first element is read. The initial capacity is 0
+    /// for an empty array or object, and 8 for any other array or object of a short text. In a long text, the initial
+    /// capacity is the last length for the same kind (array or object) and nesting depth (modulo 4), but at most 16.
+    /// The initial capacity is 8 if a long text has had no array or object of the same kind and nesting depth yet.
     #[inline(always)]
     pub(crate) fn room(&self, is_object: bool, depth: usize) -> usize {
         let next = self.lexer.peek();
@@ -324,7 +325,7 @@ impl<'a> Tokens<'a> {
         }
     }
 
-    /// Records the length of an array or object after reading it, if the text is long.
+    /// Records the length of an array or object that was read, if the JSON text has at least `LONG_TEXT` bytes.
     #[inline(always)]
     pub(crate) fn note(&self, is_object: bool, depth: usize, len: usize) {
         if self.lexer.is_long() {
@@ -332,14 +333,14 @@ impl<'a> Tokens<'a> {
         }
     }
 
-    /// Whether the text is long.
+    /// Whether the JSON text has at least `LONG_TEXT` bytes.
     #[inline(always)]
     pub(crate) fn is_long(&self) -> bool {
         self.lexer.is_long()
     }
 
-    /// Returns the array that was the argument of the last call of `note_array`. No contract states which array the
-    /// call returns.
+    /// Returns the array that was the argument of the last call of `note_array`. `last_array` has no contract about the
+    /// array that it returns.
     pub(crate) fn last_array(&self) -> &'a [LineValue<'a>] {
         self.last_array.get()
     }

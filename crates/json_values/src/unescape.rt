@@ -19,8 +19,10 @@ fn append(out: &mut [u8], at: usize, bytes: &[u8])
     out[at..at + bytes.len()].copy_from_slice(bytes);
 }
 
-/// Copies bytes from index `from` of the text to index `to` of the buffer. The call copies complete SIMD vectors if the
-/// text and the buffer are long enough for the excess bytes.
+/// Copies the bytes of a text from index `from` up to, but not including, index `to` into a buffer, at index `at`. The
+/// call copies complete SIMD vectors of 32 bytes, if text and buffer both have at least 32 bytes after the copied
+/// bytes. By copying complete SIMD vectors, the call may also overwrite up to 31 bytes of the buffer after the copied
+/// bytes.
 #[inline(always)]
 fn append_run(out: &mut [u8], at: usize, text: &[u8], from: usize, to: usize)
     requires { (from ≤ to) × (to ≤ length text.now) × (at + (to - from) ≤ length out.old) }
@@ -106,7 +108,7 @@ fn low_half(text: &[u8], i: usize, high: u32) -> Option<(char, usize)>
     Some((c, i + 6))
 }
 
-/// Reads the part of an escape after `\u`. The part after `\u` begins at index `i`.
+/// Reads the part of an escape after `\u`, from index `i` of the text on.
 fn unicode(text: &[u8], i: usize) -> Option<(char, usize)>
     requires { i ≤ length text.now }
     ensures { Escape text.now after_u i result }
@@ -122,8 +124,8 @@ fn unicode(text: &[u8], i: usize) -> Option<(char, usize)>
     Some((c, i + 4))
 }
 
-/// Reads the part of an escape after its backslash. The part after the backslash begins at index `i`. Returns the
-/// character of the escape, and the index after the escape.
+/// Reads the part of an escape after its backslash, from index `i` of the text on. Returns the character of the escape,
+/// and the index after the escape.
 fn escape(text: &[u8], i: usize) -> Option<(char, usize)>
     requires { i ≤ length text.now }
     ensures { Escape text.now after_backslash i result }

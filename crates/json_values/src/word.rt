@@ -11,7 +11,7 @@ use crate::run::{byte_at, digits_end};
 use json::Token;
 use serde_json::Number;
 
-/// The parser appends another digit to a number only if the number is at most this value.
+/// The greatest number to which `digits_sum` appends another digit.
 const FULL: u64 = 100_000_000_000_000_000;
 
 /// Whether a byte ends a number or a literal.
@@ -185,8 +185,8 @@ fn digits_sum(rest: &[u8]) -> Option<(u64, usize)>
     if i == 0 { None } else { Some((n, i)) }
 }
 
-/// Reads a short number (a few digits and an optional minus sign) at an index. Returns the number, and the index after
-/// the number.
+/// Returns the short number at an index of a JSON text, with the index after it. A short number has a few digits and an
+/// optional minus sign.
 #[inline(always)]
 pub(crate) fn integer(text: &[u8], from: usize) -> Option<(Number, usize)>
     requires { from ≤ length text.now }

@@ -17,9 +17,9 @@ pub data Runs {S : Type 0} (steps : Steps S) (start : S) : List (List ℕ) → L
   more : {lines : List (List ℕ)} {text : List ℕ} {mid : S} (line added : List ℕ) (new : S)
       → Runs steps start lines text mid → steps mid line added new → Runs steps start (lines ++ line ∷ []) (text ++ added) new
 
--- A task that began in the state `start` has read each complete line of the bytes `taken`, and the writer has the
--- task's text. The bytes `begun` are the part of `taken` after the last line end. The arguments `held` and `held'` are
--- the bytes that the writer had accepted before and after the task read the lines.
+-- A task that began in the state `start` has read all complete lines of the bytes `taken`. The writer has accepted all
+-- text that the task appended. The bytes `begun` are the part of `taken` after the last line end. The arguments `held`
+-- and `held'` are the bytes that the writer had accepted before and after the task read the lines.
 pub record HasRun {S : Type 0} (steps : Steps S) (start : S) (held : Option (List ℕ)) (taken : List ℕ) (state : S)
     (begun : List ℕ) (held' : Option (List ℕ)) : Type 0 where
   pub lines : List (List ℕ)
@@ -56,9 +56,9 @@ abbrev pub HasDone : {S : Type 0} → Steps S → Steps S → S → Option (List
 HasDone steps ends start taken taken' held state held' = IsDoneOn steps ends start (Appends taken taken') held state held'
 
 -- The bytes `front` are a prefix of the text that a task in the given state appends next. The bytes `rest` are the part
--- of the input that the task has not read yet. If the flag `at_end` is true, the task reads the input's end next. If
--- the flag `at_end` is false, either `front` is empty, or the task reads a line next, and `front` is a prefix of the
--- text for this line.
+-- of the input that the task has not read yet. If `at_end` is true, the bytes `front` are a prefix of the text that the
+-- task appends for the input's end. If `at_end` is false, the bytes `front` are empty, or are a prefix of the text that
+-- the task appends for the next line.
 abbrev pub IsFront : {S : Type 0} → Bool → Steps S → Steps S → S → List ℕ → List ℕ → Type 0
 IsFront {S} true steps ends state rest front =
     (back : List ℕ) × (new : S) × (has_line_end rest ≡ false) × ends state rest (front ++ back) new
@@ -67,9 +67,9 @@ IsFront {S} false steps ends state rest front =
     ⊎ ((line after back : List ℕ) × (new : S) × (rest ≡ line ++ 10 ∷ after) × (has_line_end line ≡ false)
     × steps state line (front ++ back) new)
 
--- An error stopped a task. After the error, the writer has the task's text for the input's first lines, and then a
--- prefix of the next text (`IsFront`). The next text belongs to the next line or to the input's end. The predicate
--- `given` is true of the input that was read.
+-- After an error stopped a task, the writer has the text that the task appended for the input's first lines, and then
+-- the bytes `front`. The bytes `front` are a prefix of the text that the task would append for the next line, or for
+-- the input's end (`IsFront`). The predicate `given` is true of the input that was read.
 pub record IsStoppedOn {S : Type 0} (at_end : Bool) (steps ends : Steps S) (start : S) (given : List ℕ → Type 0)
     (held held' : Option (List ℕ)) : Type 0 where
   pub input : List ℕ
@@ -121,9 +121,8 @@ abbrev pub HasPrinted : {S : Type 0} → Ended S → List ℕ → List ℕ → S
 HasPrinted {S} ended input text state =
     (lines : List (List ℕ)) × (rest : List ℕ) × AreLines input lines rest × ended lines rest text state
 
--- The output `text` of a task that an error stopped is a prefix of the output for the input's first lines, or of the
--- output for the complete input. The statement `all` says that the input was read to the end. The text can be a prefix
--- of the output for the complete input only if `all` is true.
+-- The output `text` of a task that an error stopped is a prefix of the output for the input's first lines. If the input
+-- was read to its end (the statement `all`), `text` may instead be a prefix of the output for the complete input.
 abbrev pub HasPrintedPart : {S : Type 0} → Kept S → Ended S → Type 0 → List ℕ → List ℕ → Type 0
 HasPrintedPart {S} kept ended all input text =
     ((lines : List (List ℕ)) × (rest back : List ℕ) × (state : S) × (input ≡ joined lines ++ rest)

@@ -113,7 +113,8 @@ fn finish<T: LineTask, W: ScriptWrite>(
 /// its maximum.
 ///
 /// After an error, the writer has accepted the task's complete output for the first n lines of the input, for some n.
-/// The writer has then accepted a prefix of the task's output for the next line or for the end of the input.
+/// After an error, the last bytes that the writer accepted may be an incomplete output for the input's next line or for
+/// the input's end.
 pub fn run_task<T: LineTask, R: ScriptRead, W: ScriptWrite>(
     alloc: Global,
     task: &mut T,

@@ -15,7 +15,7 @@ pub trait LineTask {
     // after the last line end, the appended text, and the task's state afterwards.
     ghost ends: { Self → List ℕ → List ℕ → Self → Type 0 };
 
-    /// Reads a line, given without its line end, and appends text.
+    /// Reads a line, given without its line end, and appends the task's output for the line to `text`.
     ///
     /// # Errors
     ///
@@ -24,7 +24,8 @@ pub trait LineTask {
         requires empty { text.old.items ≡ [] }
         ensures { OnOk result (steps self.old line.now text.new.items self.new) };
 
-    /// Reads the rest of the input, which is the bytes after the last line end, and appends text.
+    /// Reads the input's end, given as the bytes after the last line end, and appends the task's output for the end to
+    /// `text`.
     ///
     /// # Errors
     ///

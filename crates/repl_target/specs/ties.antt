@@ -1,2 +1,2 @@
--- Defines tied (consistent) windows, messages and peers.
+-- Defines when windows and messages are consistent with a source and a target, and when two peers are consistent.
 pub mod Ties

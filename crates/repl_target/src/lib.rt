@@ -1,7 +1,7 @@
 //! Replicates one peer into another by one thread, and audits replications.
 //!
-//! The rules are in docs/PROFILE.md, "Goal and windows", "Common checkpoint" and "Audit". This crate re-exports all
-//! public items of `repl_peer`.
+//! The rules of replications and audits are in docs/PROFILE.md, "Goal and windows", "Common checkpoint" and "Audit".
+//! This crate re-exports all public items of `repl_peer`.
 #![tactic(auto)]
 
 mod auditing;

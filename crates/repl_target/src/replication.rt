@@ -65,21 +65,23 @@ impl Plan {
 }
 
 /// Replicates the source's documents into the target, on one thread. The replication starts at the common checkpoint of
-/// the two logs, and ends at the source's update sequence. The call settles each window before it reads the next
-/// window. After the last window, the call records the session, first at the target and then in the source's log.
+/// the source's log and the target's log, and ends at the source's update sequence. The call settles each window before
+/// it reads the next window. After the last window, the call records the session, first at the target and then in the
+/// source's log.
 ///
 /// If the call succeeds, the target covers each leaf of the source's selected feed above the start, and the report is
 /// the session's report. After a successful call that started with an empty target and refused no document, the target
 /// has the source's revisions, parents and contents of leaves of each selected document. The source's database never
 /// changes.
 ///
-/// Consistent peers (docs/PROFILE.md, "Tied peers") stay consistent for every selection and every result. An audit of
-/// consistent peers after the call therefore finds no uncovered leaf. An uncovered leaf is neither in the document's
-/// tree at the target nor in the ledger of a session. If the peers are consistent and the call succeeds, each leaf of
-/// the source's complete selected feed is covered, including leaves below the start. A third peer that was consistent
-/// with the source or the target stays consistent with that peer, under two conditions (`KeepsOthersTied`). If the
-/// third peer is another source of the target, the third peer's UUID must not be the source's UUID. If the third peer
-/// is another target of the source, the third peer's UUID must not be the target's UUID.
+/// If the source and the target are consistent (docs/PROFILE.md, "Tied peers"), they stay consistent for every
+/// selection, even if the replication fails. After a replication between consistent peers, an audit finds no uncovered
+/// leaf. An uncovered leaf is neither in the document's tree at the target nor in the ledger of a session. If the peers
+/// are consistent and the call succeeds, each leaf of the source's complete selected feed is covered, including leaves
+/// below the start. A third peer that was consistent with the source or the target stays consistent with that peer,
+/// with two exceptions (`KeepsOthersTied`). The guarantee for third peers excludes another source of the target that
+/// has the source's UUID. The guarantee for third peers also excludes another target of the source that has the
+/// target's UUID.
 ///
 /// # Errors
 ///
@@ -186,8 +188,8 @@ pub fn check_plan(source: u128, target: u128, plan: &Plan) -> Result<(), TargetF
 }
 
 /// Begins the session of a plan, and returns the session's start. The session starts at the common checkpoint of the
-/// two logs, and has the checkpoint's session as its base. If the logs have no common checkpoint, the session starts at
-/// 0. The goal of the session is the source's update sequence.
+/// source's log and the target's log, and continues the checkpoint's session. If the logs of the source and the target
+/// have no common checkpoint, the session starts at 0. The goal of the session is the source's update sequence.
 ///
 /// If the call fails, it returns `Memory`, or an error of `Peer::begin`. An error changes nothing.
 pub fn begin_plan<F: WriteFilter, G: WriteFilter>(
@@ -334,8 +336,8 @@ fn record_at_target<G: WriteFilter>(
     }
 }
 
-/// Stores the target's entry of a plan's session in the source's log. The target must have the session. If the source's
-/// log has a newer entry of the session, the call stores nothing.
+/// Stores the target's entry of a plan's session in the source's log. The target must have a session with the plan's
+/// session id. If the source's log has a newer entry of the session, the call stores nothing.
 ///
 /// An error changes nothing.
 pub fn record_at_source<F: WriteFilter, G: WriteFilter>(

@@ -1,5 +1,5 @@
--- Defines the grammar of a script's output, and the changes in the output, as specified in docs/PROFILE.md, "Lines of
--- documents".
+-- Defines the grammar of a script's output, and the document ids and revisions in its `change` lines, as specified in
+-- docs/PROFILE.md, "Lines of documents".
 use Rattle.std.specs.Prelude.{◌≡◌, ℕ, ◌||◌, ◌==◌, List, [], ◌∷◌, ◌++◌, Bool, true, false, not, codes}
 use Rattle.std.specs.List.{list_all}
 use Rattle.std.specs.Str.{bytes_eq}
@@ -21,8 +21,8 @@ pub data AreRevs : List ℕ → List Piece → Type 0 where
 abbrev pub is_word_byte : ℕ → Bool
 is_word_byte b = not (b == 10 || b == 32)
 
--- The given bytes are lines of a script's output, each with its line end. The given pieces are the document ids and the
--- revisions in the `change` lines of this output, in order.
+-- The lines of a script's output, each with its line end, and the document ids and revisions in the `change` lines, in
+-- order.
 pub data AreChanges : List ℕ → List Piece → Type 0 where
   none : AreChanges [] []
   empty : {b : ℕ} {t : List ℕ} {ps : List Piece} → is_space b ≡ true → AreChanges t ps → AreChanges (b ∷ t) ps
@@ -31,13 +31,13 @@ pub data AreChanges : List ℕ → List Piece → Type 0 where
       → AreChanges (codes "change " ++ (n ++ (32 ∷ 34 ∷ (k ++ (32 ∷ (r ++ t)))))) ((Id, 34 ∷ k) ∷ (ps ++ qs))
   -- A document or a log in a script's output.
   object : {o u t : List ℕ} {ps : List Piece} → IsPlainDocument o u → AreChanges t ps → AreChanges (o ++ t) ps
-  -- A line of a script's output, of one or more words, that begins with a lower-case letter and is not a change.
+  -- A line of a script's output that begins with a lower-case letter, and whose first word is not `change`.
   word : {b : ℕ} (w : List ℕ) {t : List ℕ} {ps : List Piece} → is_lower b ≡ true → is_space b ≡ false → list_all is_word_byte w ≡ true
       → bytes_eq (b ∷ w) (codes "change") ≡ false → AreChanges t ps → AreChanges (b ∷ (w ++ 10 ∷ t)) ps
   words : {b : ℕ} (w x : List ℕ) {t : List ℕ} {ps : List Piece} → is_lower b ≡ true → is_space b ≡ false → list_all is_word_byte w ≡ true
       → bytes_eq (b ∷ w) (codes "change") ≡ false → InOneLine x → AreChanges t ps
       → AreChanges (b ∷ (w ++ (32 ∷ (x ++ 10 ∷ t)))) ps
 
--- The output of a script, with or without the last line end, and the ids and revisions of the changes in the output.
+-- The output of a script, with or without the last line end, and the document ids and revisions in its `change` lines.
 abbrev pub IsChangeScript : List ℕ → List Piece → Type 0
 IsChangeScript text held = AreChanges (text ++ 10 ∷ []) held

@@ -16,9 +16,9 @@ use Rattle.response_parser.specs.declared.place.Found.TheVariants.{Id, Rev}
 
 -- ---- objects and lists
 
--- The members of an object, up to its closing brace. In the parameters, `Member n n' m ps` says that m is a member with
--- the contents ps. The flag n says whether an id came before the member m, and n' whether an id came before the next
--- member.
+-- The members of an object, up to its closing brace. The parameter `Member` relates flags n and n' to a member's text m
+-- and its items ps. The flags n and n' say whether a document id came before the member m, and before the member after
+-- m.
 pub data AreMembersOf (Member : Bool → Bool → List ℕ → List Piece → Type 0) : Bool → List ℕ → List Piece → Type 0 where
   last_member : {n n' : Bool} {m : List ℕ} {ps : List Piece} → Member n n' m ps → AreMembersOf Member n (m ++ 125 ∷ []) ps
   member : {n n' : Bool} {m t : List ℕ} {ps qs : List Piece} (s : List ℕ) → Member n n' m ps → Spaces s → AreMembersOf Member n' t qs
@@ -39,7 +39,7 @@ pub data IsListOf (Item : List ℕ → List Piece → Type 0) : List ℕ → Lis
 
 -- ---- members
 
--- Whether a member whose name has the given meaning is skipped.
+-- Whether the parser skips a member, given the member's kind.
 abbrev pub is_skipped : Name → Bool
 is_skipped names.Plain = false
 is_skipped names.Item = false
@@ -58,8 +58,9 @@ is_skipped names.Reason = false
 is_skipped names.Other = true
 is_skipped names.Foreign = false
 
--- A member that is skipped. The flags `inner` and `entry` say whether a member is in a document's list of revisions,
--- and whether the member is in the entry of a document.
+-- A member of a response that the parser skips when the caller requested document ids and revisions. The flags `inner`
+-- and `entry` say whether a member is in a document's list of revisions, and whether the member is in the entry of a
+-- document.
 pub data IsSkipped (inner entry : Bool) (d : ℕ) : List ℕ → Type 0 where
   skipped : {k t u : List ℕ} {name : Name} (s s' : List ℕ) → EndsString k → is_json (34 ∷ k) ≡ true
       → name_of Leaves false inner entry d (34 ∷ k) ≡ name → is_skipped name ≡ true → Spaces s → Spaces s' → IsValue t u

@@ -11,13 +11,13 @@ use Rattle.response_parser.specs.Values.{document_found}
 use Rattle.response_parser.specs.declared.place.Wanted.{Wanted}
 use Rattle.response_parser.specs.declared.place.Wanted.TheVariants.{Documents, Enveloped, Bodies, Unfolded, Leaves, Changes}
 
--- The minimum number of bytes of a document that the parser stores before it passes on a run (consecutive bytes of a
--- string) without storing the run.
+-- The minimum number of bytes of a document that the parser stores before it passes on string bytes without storing
+-- them.
 abbrev pub long : ℕ
 long = 262144
 
--- The text s is the beginning of a document, after which a run (consecutive bytes of a string that the parser does not
--- store) may follow. For each document that begins with the text s, the output begins with the text S.
+-- The text s is the beginning of a document, after which string bytes may follow that the parser does not store. If a
+-- document begins with the text s and is not late (`IsLate`), the document's output begins with the text S.
 abbrev pub IsStart : Wanted → List ℕ → List ℕ → Type 0
 IsStart Documents s S = ⊥
 IsStart Enveloped s S = IsPutStart s S
@@ -26,8 +26,9 @@ IsStart Unfolded s S = IsTakeStart s S
 IsStart Leaves s S = ⊥
 IsStart Changes s S = ⊥
 
--- A document's beginning that may have runs (bytes that are not stored): the complete text, the text without the
--- runs, and the outputs for these two texts.
+-- The beginning of a document of which the parser may not have stored some string bytes. The text `full` has all bytes
+-- of a document's beginning, and the text `stored` has only the bytes that the parser stored. The text `written` is the
+-- output for `full`, and `front` is the output for `stored`.
 pub record Cut : Type 0 where
   pub full : List ℕ
   pub stored : List ℕ
@@ -37,8 +38,8 @@ pub record Cut : Type 0 where
 abbrev pub IsCut : Wanted → Cut → Type 0
 IsCut wanted c = Front (IsStart wanted) c.full c.stored c.written c.front
 
--- The text of the parser's state s begins with `cut.full`, which is the beginning of a document and has at least `long`
--- bytes. The text `written` is the output for `cut.full`.
+-- The text of the parser's state s begins with `cut.full`, the first bytes of a document, of which there are at least
+-- 262,144 (`long`). The text `written` is the output for `cut.full`.
 pub record HasWritten (s : State) (written : List ℕ) : Type 0 where
   pub cut : Cut
   pub behind : List ℕ
@@ -48,9 +49,10 @@ pub record HasWritten (s : State) (written : List ℕ) : Type 0 where
   pub is : written ≡ cut.written
 
 -- In the parser's state s, the parser has just read the end of a document. The text `written` is the output for
--- `cut.full`, a long beginning of the document. After `cut.full`, the document has a member that its envelope stores
--- outside of the member `whole` (`_id`, `_rev`, `_revisions` or `_deleted`). The output for the stored text (the
--- document without its runs) does not begin with `cut.front`, the output for the beginning of this text.
+-- `cut.full`, the first bytes of the document, of which there are at least 262,144 (`long`). The output for the
+-- document's stored bytes does not begin with `cut.front`, the output for the stored bytes of `cut.full`. A document is
+-- late only if a member `_id`, `_rev`, `_revisions` or `_deleted`, which an envelope stores outside of `whole`, follows
+-- `cut.full`.
 pub record IsLate (s : State) (written : List ℕ) : Type 0 where
   pub cut : Cut
   pub rest : List ℕ

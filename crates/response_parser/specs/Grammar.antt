@@ -1,5 +1,5 @@
 -- Defines the grammar of CouchDB's responses, and the documents in the responses, as specified in docs/PROFILE.md,
--- "CouchDB's answers". The grammar of the kit's JSON library decides whether a text is JSON (`is_json`).
+-- "CouchDB's answers". The grammar of the crate `json` decides whether a text is JSON (`is_json`).
 use Rattle.std.specs.Prelude.{◌≡◌, ℕ, ◌+◌, ◌<◌, ◌==◌, slice_index, List, [], ◌∷◌, ◌++◌, Bool, true, false, codes, Some}
 use Rattle.doc_envelope.specs.Texts.{Spaces, EndsString, Closed, is_space, is_json}
 use Rattle.doc_envelope.specs.Names.{has_id, is_log}
@@ -19,17 +19,17 @@ pub record IsValue (t u : List ℕ) : Type 0 where
   pub first : is_space (slice_index t 0) ≡ false
   pub json : is_json u ≡ true
 
--- The text k is the name of a member without the opening quotation mark, and `name` is the kind of the member. The
--- Boolean `first` is true if the member is the first member of its object. The number d counts the open lists and
--- objects.
+-- The text k is a member's name without the opening quotation mark. The parser derives the member's kind `name` from k,
+-- `first` and d. The Boolean `first` is true if the member is the first member of its object. The number d counts the
+-- open lists and objects.
 pub record IsNamed (wanted : Wanted) (first : Bool) (d : ℕ) (k : List ℕ) (name : Name) : Type 0 where
   pub string : EndsString k
   pub json : is_json (34 ∷ k) ≡ true
   pub says : name_of wanted first false false d (34 ∷ k) ≡ name
 
--- The items that the parser returns for a member's value. If the kind of the member is `Document` and the value is an
--- object, the value is one item, a document. If the kind is `Document` and the value is not an object, or if the kind
--- is `Passed`, `Last` or `Other`, the value has no items.
+-- The items that the parser returns for a member's value. A member of the kind `Document` has one item, a document, if
+-- its value is an object. A member of the kind `Document` without an object, or of the kind `Passed`, `Last`, `Seq` or
+-- `Other`, has no items.
 pub data Holds (wanted : Wanted) : Name → List ℕ → List Piece → Type 0 where
   document : {u v : List ℕ} → (slice_index u 0 == 123) ≡ true → covered wanted u ≡ Some v → Holds wanted Document u ((found.Document, v) ∷ [])
   no_object : {u : List ℕ} → (slice_index u 0 == 123) ≡ false → Holds wanted Document u []
@@ -49,13 +49,13 @@ pub record IsPlainDocument (o u : List ℕ) : Type 0 where
   pub text : u ≡ codes "{\"_id\"" ++ (line ++ 125 ∷ [])
   pub json : is_json u ≡ true
 
--- The contents of an object whose first member is `_id`: the object itself, unless the object is a log.
+-- The items in an object whose first member is `_id`: one document, or no item if the object is a replication log.
 pub data IsDocument (wanted : Wanted) : List ℕ → List Piece → Type 0 where
   document : {o u v : List ℕ} → IsPlainDocument o u → is_log u ≡ false → covered wanted u ≡ Some v → IsDocument wanted o ((found.Document, v) ∷ [])
   log : {o u : List ℕ} → IsPlainDocument o u → is_log u ≡ true → IsDocument wanted o []
 
--- The text o is an object whose first member is not `_id`, and u is the same object on one line. The object is an item of
--- the list `docs` of an outermost object.
+-- The text o is an object whose first member is not `_id`, and u is the same object on one line. The object o is an
+-- item of the list `docs` of an outermost object.
 pub record IsLateDocument (wanted : Wanted) (o u : List ℕ) : Type 0 where
   pub before : List ℕ
   pub key : List ℕ
@@ -70,15 +70,16 @@ pub record IsLateDocument (wanted : Wanted) (o u : List ℕ) : Type 0 where
   pub text : u ≡ 123 ∷ (34 ∷ (key ++ (line ++ 125 ∷ [])))
   pub json : is_json u ≡ true
 
--- An item of the list `docs` of an outermost object, and the item's contents: the item itself if the item has a member
--- `_id`, unless the item is a log.
+-- An item of an outermost object's list `docs`, and the documents in it: one document if the item has a member `_id`,
+-- otherwise no document. A replication log is not a document.
 pub data IsDoc (wanted : Wanted) : List ℕ → List Piece → Type 0 where
   first_id : {o : List ℕ} {ps : List Piece} → IsDocument wanted o ps → IsDoc wanted o ps
   late_id : {o u v : List ℕ} → IsLateDocument wanted o u → has_id u ≡ true → covered wanted u ≡ Some v → IsDoc wanted o ((found.Document, v) ∷ [])
   no_id : {o u : List ℕ} → IsLateDocument wanted o u → has_id u ≡ false → IsDoc wanted o []
   no_names : (s : List ℕ) → Spaces s → IsDoc wanted (123 ∷ (s ++ 125 ∷ [])) []
 
--- The items of the list `docs` of an outermost object, from an object to the closing bracket of the list.
+-- The rest of an outermost object's list `docs`, from the start of one of the list's items to the list's closing
+-- bracket.
 pub data AreDocs (wanted : Wanted) : List ℕ → List Piece → Type 0 where
   last_doc : {o : List ℕ} (s : List ℕ) {ps : List Piece} → IsDoc wanted o ps → Spaces s → AreDocs wanted (o ++ (s ++ 93 ∷ [])) ps
   doc : {o : List ℕ} (s s' : List ℕ) {more : List ℕ} {ps qs : List Piece} → IsDoc wanted o ps → Spaces s → Spaces s' → AreDocs wanted more qs

@@ -75,7 +75,8 @@ after_id s b = cond (b == 32) (at (Line BeforeRev) s) (refused NoAnswer s)
 abbrev pub is_rev_byte : ℕ → Bool
 is_rev_byte b = is_digit b || is_lower b || nat_le 65 b && nat_le b 90 || b == 45 || b == 95 || b == 46
 
--- The parser's state after the first byte of a revision. The parser stores a quotation mark before the first byte.
+-- The parser's state after the first byte of a revision in a `change` line. The parser stores a quotation mark before
+-- the revision, because it reports revisions as JSON strings.
 abbrev pub before_rev : State → ℕ → State
 before_rev s b = cond (is_rev_byte b) (record s { place = Line Rev; text = 34 ∷ b ∷ [] }) (refused NoAnswer s)
 

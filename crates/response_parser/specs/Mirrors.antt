@@ -1,7 +1,7 @@
--- This file compares a parser that does not store the runs (parts of strings) of a long document with a parser that
--- stores each byte. The *full* state is the state of a parser that stores each byte. The *stored* state is the state of
--- a parser that does not store the runs. The stored state is equal to the full state, except that the text of the
--- stored state lacks the runs of the document.
+-- This file compares a parser that stores each byte with a parser that passes on some string bytes of a long document
+-- without storing them. The *full* state is the state of the parser that stores each byte. The *stored* state is the
+-- state of the parser that passes on some string bytes without storing them. The stored state equals the full state,
+-- except that its text lacks the bytes that were passed on without being stored.
 use Rattle.std.specs.Prelude.{◌≡◌, ℕ, ◌≤◌, ◌==◌, length, slice_index, List, ◌++◌, Bool, true, false}
 use Rattle.doc_envelope.specs.Names.{is_log}
 use Rattle.response_parser.specs.Names.{is_plain}
@@ -63,25 +63,26 @@ is_document names.Reason = false
 is_document names.Other = false
 is_document names.Foreign = false
 
--- The parser's place is in the value of the given name: outside of strings, in a string, or after a backslash in a
+-- The parser is in the value of a member of the kind `name`: outside of strings, in a string, or after a backslash in a
 -- string.
 pub data IsWithin (name : Name) : Place → Type 0 where
   in_value : IsWithin name (Value name)
   in_string : IsWithin name (Quoted name)
   in_escape : IsWithin name (Escaped name)
 
--- The parser is in a document that it found by a member name with the meaning `name`. The parser need not store the
--- document's next run (bytes in a string).
+-- In state s, the parser is in a document, and `name` is the kind of the member by which it recognized the document
+-- (`is_document`). The parser need not store the next string bytes of the document.
 pub record InDocument (name : Name) (s : State) : Type 0 where
   pub document : is_document name ≡ true
   pub object : slice_index s.text 0 ≡ 123
   pub nested : is_plain name ≡ true → (s.nesting == 0) ≡ false
   pub found : s.found ≡ Nothing
 
--- Two states of a parser in the same document. The state `full` is the state of a parser that stores each byte. The
--- state `stored` is the state of a parser that does not store runs (parts of strings). The states differ only in their
--- texts. The two texts differ only in the document's beginning: the text of `stored` does not have the runs that the
--- beginning `cut.full` has.
+-- The states `full` and `stored` of two parsers that have read the same part of a document. The parser with the state
+-- `full` stores each byte, and the parser with the state `stored` does not store some string bytes. The states `full`
+-- and `stored` differ only in their texts. The text of `full` begins with `cut.full`, and the text of `stored` begins
+-- with `cut.stored`, the stored bytes of `cut.full`. After `cut.full` and `cut.stored`, the texts of `full` and
+-- `stored` are equal.
 pub record Mirrors (cut : Cut) (name : Name) (full stored : State) : Type 0 where
   pub place : IsWithin name stored.place
   pub same : full ≡ record stored { text = full.text }
@@ -96,7 +97,7 @@ pub record Mirrors (cut : Cut) (name : Name) (full stored : State) : Type 0 wher
   pub log : is_plain name ≡ true → is_log cut.stored ≡ false
 
 -- A parser has rejected a byte of a document, after a part of the document's output was written. The parser has the
--- state `full` if it stores each byte, and the state `stored` if it does not store runs (parts of strings).
+-- state `full` if it stores each byte, and the state `stored` if it does not store some string bytes.
 pub record Rejected (cut : Cut) (full stored : State) : Type 0 where
   pub like : Like full stored
   pub refused : is_refused stored.place ≡ true

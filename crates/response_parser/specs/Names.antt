@@ -1,4 +1,5 @@
--- Defines what the name of a JSON member means to the parser, as specified in docs/PROFILE.md, "CouchDB's answers".
+-- Defines the kind of a JSON member, which the parser derives from the member's name, as specified in docs/PROFILE.md,
+-- "CouchDB's answers".
 use Rattle.std.specs.Prelude.{ℕ, ◌||◌, ◌&&◌, ◌==◌, List, Bool, true, false, cond, codes, Option, Some, None}
 use Rattle.std.specs.Str.{bytes_eq}
 use Rattle.response_parser.specs.declared.place.Wanted.{Wanted}
@@ -12,19 +13,20 @@ use Rattle.response_parser.specs.declared.place.Found.TheVariants as found
 
 -- ---- names with quotation marks
 
--- What the name `_id` means if the parser extracts documents from a response. An `_id` that is not the first name
--- belongs to a document that the parser skips, or rejects for a strict request.
+-- The kind of a member `_id`, if the caller requested documents. The parser skips a member `_id` that is not the first
+-- member of its object, or rejects it if `strict` is true.
 abbrev pub id_name : Bool → Bool → Name
 id_name strict first = cond first Plain (cond strict Foreign Passed)
 
--- What the name t of an outermost object's member means if the member belongs to a PouchDB dump.
+-- The kind of an outermost object's member with the name t, which is `Last` or `Seq` for members of a PouchDB dump, and
+-- otherwise `Other`.
 abbrev pub outermost_name : Bool → List ℕ → Name
 outermost_name first t =
     cond (bytes_eq t (codes "\"db_info\"")) Last (cond (first && bytes_eq t (codes "\"seq\"")) Seq Other)
 
--- What the name t of a JSON member means if the parser extracts documents from a response. The flag `first` says
--- whether the name t is the first name of its object. The flag `item` says whether the object is an item of the outermost
--- object's list `docs`, and `outermost` whether the object is an outermost object.
+-- The kind of a JSON member with the name t, if the caller requested documents. The flag `first` says whether the name
+-- t is the first name of its object. The flag `item` says whether the object is an item of the outermost object's list
+-- `docs`, and `outermost` whether the object is an outermost object.
 abbrev pub document_name : Bool → Bool → Bool → Bool → List ℕ → Name
 document_name strict first item outermost t =
     cond (item && first) (cond (bytes_eq t (codes "\"_id\"")) Plain Item)
@@ -35,10 +37,10 @@ document_name strict first item outermost t =
     (cond (bytes_eq t (codes "\"missing\"") || bytes_eq t (codes "\"error\"")) Passed
     (cond (bytes_eq t (codes "\"last_seq\"")) Last (cond outermost (outermost_name first t) Other)))))))
 
--- What the name t of a JSON member means if the parser extracts leaves (document ids and revisions) from a response. If
--- leaves are requested, only the name `rev` has a meaning in a document's list of revisions. If leaves are requested,
--- only the name `missing` has a meaning in the entry of a document. The flags `inner` and `entry` say whether a name is
--- in a document's list of revisions or in a document's entry.
+-- The kind of a JSON member with the name t, if the caller requested leaves (document ids and revisions). In a
+-- document's list of revisions, the parser reads only members `rev`, and ignores all other members. In a document's
+-- entry in a `_revs_diff` response, the parser reads only members `missing`, and ignores all other members. The flags
+-- `inner` and `entry` say whether a member is in a document's list of revisions or in a document's entry.
 abbrev pub leaf_name : Bool → Bool → List ℕ → Name
 leaf_name inner entry t =
     cond entry (cond (bytes_eq t (codes "\"missing\"")) Missing Other)
@@ -48,7 +50,7 @@ leaf_name inner entry t =
     (cond (bytes_eq t (codes "\"changes\"")) Changes
     (cond (bytes_eq t (codes "\"last_seq\"")) Last Other)))))
 
--- What the name t of a JSON member means if the parser extracts the changes that a script's output lists.
+-- The kind of a JSON member with the name t, if the caller requested the `change` lines of a script's output.
 abbrev pub change_name : Bool → List ℕ → Name
 change_name first t = cond (first && bytes_eq t (codes "\"_id\"")) Plain Foreign
 
@@ -60,8 +62,8 @@ wanted_name Unfolded first inner entry outermost t = document_name true first in
 wanted_name Leaves first inner entry outermost t = leaf_name inner entry t
 wanted_name InChanges first inner entry outermost t = change_name first t
 
--- The meaning of a name t for any request. For any request, the names `error` and `reason` have a meaning in an
--- outermost object.
+-- The kind of a JSON member with the name t, if the caller made the request `wanted`. For every request, the members
+-- `error` and `reason` of an outermost object may report an error of CouchDB.
 unfoldable pub name_of : Wanted → Bool → Bool → Bool → ℕ → List ℕ → Name
 name_of wanted first inner diff depth t =
     cond (depth == 1 && bytes_eq t (codes "\"error\"")) Error
@@ -131,7 +133,8 @@ is_id Reason = false
 is_id Other = false
 is_id Foreign = false
 
--- Whether the value of a name is a document's list of revisions, or the list `docs` of an outermost object.
+-- Whether a member's kind says that its value is a document's list of revisions, or the list `docs` of an outermost
+-- object.
 abbrev pub is_inner : Name → Bool
 is_inner Plain = false
 is_inner Item = false
@@ -168,8 +171,9 @@ is_error Reason = false
 is_error Other = false
 is_error Foreign = false
 
--- The kind of item that the parser finds in the value of a name. The argument `first` is the value's first byte. The
--- text of a document begins with a brace, and the text of an id or a revision begins with a quotation mark.
+-- The kind of item that the parser finds in a member's value, given the member's kind. The argument `first` is the
+-- value's first byte. The text of a document begins with a brace, and the text of an id or a revision begins with a
+-- quotation mark.
 abbrev pub found_of : Name → ℕ → Found
 found_of Plain first = found.Nothing
 found_of Item first = found.Nothing
@@ -188,7 +192,8 @@ found_of Reason first = found.Nothing
 found_of Other first = found.Nothing
 found_of Foreign first = found.Nothing
 
--- Whether the parser counts the value of a name as a skipped document. The argument `first` is the value's first byte.
+-- Whether the parser counts a member's value as a skipped document, given the member's kind. The argument `first` is
+-- the value's first byte.
 abbrev pub passes : Name → ℕ → Bool
 passes Plain first = false
 passes Item first = false
@@ -207,9 +212,9 @@ passes Reason first = false
 passes Other first = false
 passes Foreign first = false
 
--- The error that the value of a name causes, if the value causes an error. The value of a name causes an error if the
--- value must be an id or a revision but is not a string. A string `reason` causes `CouchError` if a string `error` came
--- before in the response, and the parser entered no list or object in between.
+-- The error that a member's value causes, or `None`. A value that must be a document id or a revision causes an error
+-- if it is not a string. A string `reason` causes `CouchError` if a string `error` came before in the response, and the
+-- parser entered or left no searched list or object in between.
 abbrev pub refusal_of : Name → ℕ → Bool → Option Refusal
 refusal_of Plain first failed = None
 refusal_of Item first failed = None

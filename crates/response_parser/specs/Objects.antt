@@ -35,7 +35,8 @@ closed place s =
 abbrev pub list_closed : State → State
 list_closed s = closed AfterMember (record s { inner = false })
 
--- The parser's place in the grammar after an object that is an item of a list or the entry of a document.
+-- The parser's place after an object: after a member if the object is a document's entry in a `_revs_diff` response,
+-- otherwise after a list item.
 abbrev pub behind_object : State → Place
 behind_object s = cond (s.diff && s.depth == 2) AfterMember AfterItem
 
@@ -51,7 +52,8 @@ object_closed s =
 abbrev pub empty_closed : State → State
 empty_closed s = object_closed (record s { known = wants_leaves s.wanted && s.depth == 1 })
 
--- The parser's state after the entry of a document opens. The name before the entry of a document is the document's id.
+-- The parser's state after the opening brace of a document's entry in a `_revs_diff` response. The parser reports the
+-- name before the entry as the document's id.
 abbrev pub entry_opened : State → State
 entry_opened s = opened Member (record s { diff = true; found = found.Id })
 
@@ -121,8 +123,8 @@ abbrev pub after_member : State → ℕ → State
 after_member s b =
     cond (is_space b) s (cond (b == 44) (at NextMember s) (cond (b == 125) (object_closed s) (refused NotJson s)))
 
--- The parser's state in an object that is read as one value, after the object's first name. The object's text so far is
--- the brace and the name.
+-- The parser's state in an object that is read as one value, after the object's first name. The parser's stored text is
+-- the object's opening brace and first name.
 abbrev pub plain_begun : Name → State → State
 plain_begun name s = record s { place = Value name; text = 123 ∷ s.text; nesting = 1 }
 

@@ -1,5 +1,4 @@
--- Defines how the parser's state changes when the parser reads a run, which is a part of a string that the parser does
--- not store.
+-- Defines how the parser's state changes when the parser reads string bytes of a long document without storing them.
 use Rattle.std.specs.Prelude.{◌≡◌, ◌⊎◌, ℕ, ◌≤◌, ◌==◌, nat_eq, length, List, true, false}
 use Rattle.std.specs.List.{starts_with}
 use Rattle.doc_envelope.specs.Names.{is_log}
@@ -12,17 +11,17 @@ use Rattle.response_parser.specs.Mirrors.{InDocument}
 use Rattle.response_parser.specs.declared.place.Place.TheVariants.{Quoted}
 use Rattle.response_parser.specs.declared.place.Name.{Name}
 
--- The parser is in a long document, which is the value of the given name.
+-- In state s, the parser is in a long document, which it recognized by a member of the kind `name`.
 pub record IsLong (name : Name) (s : State) : Type 0 where
   pub document : InDocument name s
   pub length_is : long ≤ length s.text
   pub log : is_plain name ≡ true → is_log s.text ≡ false
 
--- A run (bytes of a string that the parser does not store) may follow the text of the state s. The parser either keeps
--- the earlier front (the beginning of a document's output) or builds a new front. If the parser keeps the front, the
--- front is not empty, and the stored text has not grown since the front was built. If the parser builds a new front
--- from the stored text, the new front is not empty, and begins with the earlier front. The other arguments of
--- `FollowsFront` are the earlier and the later front, each with the length of the text from which the front was built.
+-- String bytes that the parser does not store may follow the text of the state s. The texts `front` and `front'` are
+-- the beginning of the document's output before and after a call of `Front::pass`. If the call keeps `front`, then
+-- `front` is not empty, and was built from the complete text of the state s. If the call builds `front'` from the text
+-- of the state s, then `front'` is not empty, and begins with `front`. The numbers `at` and `at'` are the lengths of
+-- the stored texts from which `front` and `front'` were built.
 abbrev pub FollowsFront : State → List ℕ → ℕ → List ℕ → ℕ → Type 0
 FollowsFront s front at front' at' =
     (((length front == 0) ≡ false) × (length s.text ≡ at) × (front' ≡ front) × (at' ≡ at))

@@ -68,7 +68,7 @@ end_of (Revs place) = Err CutOff
 end_of (Line place) = Err CutOff
 end_of (Refused why) = Err why
 
--- Whether the input ends within a line of a script's output, if the parser is at the given place when the input ends.
+-- Whether the parser's place in the grammar is within a line of a script's output.
 abbrev pub has_rest : Place → Bool
 has_rest Start = false
 has_rest Begin = false

@@ -12,12 +12,14 @@ abbrev pub more_by : ℕ → List ℕ → ℕ
 more_by n [] = n
 more_by n (b ∷ bytes) = more_by (more n) bytes
 
--- The parser's place in the value of a name, within a string or outside of strings.
+-- The parser's place in the value of a member of the kind `name`: within a string if the Boolean argument is true,
+-- otherwise outside of strings.
 abbrev pub in_value_of : Name → Bool → Place
 in_value_of name true = Quoted name
 in_value_of name false = Value name
 
--- The parser is in the value of a name, and has stored a part of the value. In the value, `nesting` brackets are open.
+-- In state s, the parser is in the value of a member of the kind `name`, and has stored a part of the value. In the
+-- value, `nesting` brackets are open.
 pub record IsInValue (s : State) (name : Name) (quoted : Bool) (nesting : ℕ) : Type 0 where
   pub place : s.place ≡ in_value_of name quoted
   pub nesting_is : s.nesting ≡ nesting

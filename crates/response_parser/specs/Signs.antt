@@ -15,8 +15,7 @@ begins_sign t =
     || bytes_eq t (254 ∷ []) || bytes_eq t (255 ∷ []) || bytes_eq t (codes "H") || bytes_eq t (codes "HT") || bytes_eq t (codes "HTT")
     || bytes_eq t (codes "HTTP")
 
--- The error for the known format that begins with the given text, or `NoAnswer` if no known format begins with this
--- text.
+-- The error for input that begins with the text t: the error of the known format that t identifies, or `NoAnswer`.
 abbrev pub sign_of : List ℕ → Refusal
 sign_of t =
     cond (bytes_eq t (31 ∷ 139 ∷ [])) Gzip

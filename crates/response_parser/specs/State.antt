@@ -16,7 +16,8 @@ pub record State : Type 0 where
   pub some : Bool
   -- The number of lists and objects that are open at the parser's position.
   pub depth : ℕ
-  -- Whether the innermost open object has a known member, and whether this object has an id.
+  -- Whether the innermost open object has a member, such as `ok` or `results`, because of which the parser does not
+  -- skip the object. Whether the innermost open object has a member with a document id.
   pub known : Bool
   pub named : Bool
   -- Whether the parser's last name is the first name of its object.
@@ -25,19 +26,20 @@ pub record State : Type 0 where
   pub inner : Bool
   -- Whether the current response is a response of `_revs_diff`.
   pub diff : Bool
-  -- Whether the parser has read a member `error` whose value is a string since it last entered or left a list or an
-  -- object that it searches.
+  -- Whether the parser has read a member `error` with a string, and has since neither entered nor left a list or object
+  -- that it searches.
   pub failed : Bool
   -- The number of brackets that are open within the parser's current value.
   pub nesting : ℕ
-  -- The part of the current name or value in the input that the parser has stored. After the name or value has ended,
-  -- the stored text is the complete name or value, except for the runs (consecutive string bytes) of a long document.
+  -- The bytes of the current name or value that the parser has stored. After a name or value has ended, its stored text
+  -- is complete, except for string bytes of a long document that were not stored.
   pub text : List ℕ
   -- The text of CouchDB's error, from the last member `error`.
   pub error : List ℕ
   -- The kind of item that the parser's last byte completed.
   pub found : Found
-  -- The number of skipped documents: objects without a document, values instead of a document, and lines `refused`.
+  -- The number of skipped entries: objects without documents, values (such as errors) instead of documents, and script
+  -- output lines that begin with `refused`.
   pub passed : ℕ
   -- The number of bytes that the parser has read.
   pub taken : ℕ

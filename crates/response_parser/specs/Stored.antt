@@ -1,4 +1,4 @@
--- Defines the values by which contracts describe a stored parser and a stored front (the beginning of a document's
+-- Defines the values by which contracts describe a `Reading` (a parser) and a `Front` (the beginning of a document's
 -- output).
 use Rattle.std.specs.Prelude.{ℕ, List}
 use Rattle.response_parser.specs.State.{State}
@@ -28,7 +28,6 @@ state_of r = record {
 abbrev pub front_of : Front → List ℕ
 front_of f = f.text.items
 
--- The number of bytes of the current document that the parser had stored when it built the front (the beginning of the
--- document's output).
+-- The number of bytes of the current document that were stored when the text of the `Front` was built.
 abbrev pub front_length_of : Front → ℕ
 front_length_of f = f.length

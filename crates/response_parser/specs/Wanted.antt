@@ -31,8 +31,8 @@ wants_changes Unfolded = false
 wants_changes Leaves = false
 wants_changes Changes = true
 
--- Whether the parser, for a request, rejects and does not skip objects without a document. A request that rejects
--- objects without documents also accepts empty input.
+-- Whether the parser rejects objects without documents, instead of skipping them, because of the caller's request. If
+-- the parser rejects objects without documents, it accepts empty input.
 abbrev pub is_strict : Wanted → Bool
 is_strict Documents = false
 is_strict Enveloped = false

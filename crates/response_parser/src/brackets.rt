@@ -86,7 +86,8 @@ impl Reading {
         }
     }
 
-    /// Returns the parser's place in the grammar after an object that is an item of a list or the entry of a document.
+    /// Returns the parser's place after an object: after a member if the object is a document's entry in a `_revs_diff`
+    /// response, otherwise after a list item.
     fn behind_object(&self) -> Place
         ensures { result ≡ behind_object (state_of self.now) }
     {
@@ -157,8 +158,8 @@ impl Reading {
         }
     }
 
-    /// Reads the opening bracket of a response that is a JSON list. The parser rejects the list if the caller requested
-    /// changes.
+    /// Reads the opening bracket of a response that is a JSON list. The parser rejects a response that is a list if the
+    /// caller requested the `change` lines of a script's output (`Changes`).
     pub(crate) fn open_list(&mut self)
         ensures { state_of self.new ≡ list_opened (state_of self.old) }
     {

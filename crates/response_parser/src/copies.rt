@@ -11,20 +11,20 @@ use crate::values::MAX_NESTING;
 use json_values::plain_end;
 use std::alloc::AllocError;
 
-/// A position in the text of a JSON value.
+/// A position in the input bytes that the parser is copying to the current JSON value.
 #[derive(Clone, Copy)]
 struct Spot {
-    /// The number of the value's bytes before the position.
+    /// The index of a position in the input bytes that the parser is copying.
     count: usize,
-    /// Whether the position is inside a JSON string.
+    /// Whether a position in the input bytes is inside a JSON string.
     quoted: bool,
-    /// The number of brackets that are open at the position.
+    /// The number of the current JSON value's brackets that are open at a position in the input bytes.
     nesting: u8,
 }
 
 impl Spot {
-    /// Returns the position after the next bytes of a value that can be copied together. If the next byte cannot be
-    /// copied together with other bytes, the call returns the given position.
+    /// Returns the position after the next bytes of a JSON value that can be copied at once. If the parser must read
+    /// the next byte by itself, the call returns the position `self`.
     #[inline(always)]
     fn next(self, bytes: &[u8]) -> Spot
         requires { self.count < length bytes.now }
@@ -39,8 +39,9 @@ impl Spot {
         }
     }
 
-    /// Returns the position after the content of a string and after the quotation mark or the escape that ends the
-    /// content.
+    /// Returns the position after the next quotation mark or two-byte escape in a string. Returns the position before a
+    /// control byte, or before a quotation mark or backslash that is the last input byte. Returns the end of the input
+    /// bytes if they have no further quotation mark, backslash or control byte.
     #[inline(always)]
     fn in_string(self, bytes: &[u8]) -> Spot
         requires within { self.count < length bytes.now }
@@ -138,7 +139,8 @@ impl Spot {
         }
     }
 
-    /// Returns the position after an opening bracket, or the given position if too many brackets are open.
+    /// Returns the position after an opening bracket, or the position `self` before the bracket if `MAX_NESTING`
+    /// brackets are open.
     #[inline(always)]
     fn opened(self, bytes: &[u8]) -> Spot
         requires within { self.count < length bytes.now }
@@ -159,7 +161,8 @@ impl Spot {
         }
     }
 
-    /// Returns the position after a closing bracket, or the given position if the bracket closes the complete value.
+    /// Returns the position after a closing bracket, or the position `self` before the bracket if the bracket closes
+    /// the complete JSON value.
     #[inline(always)]
     fn closed(self, bytes: &[u8]) -> Spot
         requires within { self.count < length bytes.now }

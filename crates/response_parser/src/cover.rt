@@ -25,8 +25,8 @@ impl Reading {
         }
     }
 
-    /// Wraps the complete document in an envelope, and reports the envelope. The call rejects the input if the document
-    /// cannot be wrapped.
+    /// Wraps the complete document in an envelope, and reports the envelope. Rejects the input with `NotWhole` if the
+    /// document cannot be wrapped in an envelope.
     fn find_put(&mut self) -> Result<(), AllocError>
         requires { self.old.wanted ≡ Wanted.Enveloped }
         ensures { OnOk result (state_of self.new ≡ document_found (state_of self.old)) }
@@ -38,8 +38,8 @@ impl Reading {
         Ok(())
     }
 
-    /// Unwraps the complete envelope, and reports the document inside the envelope. The call rejects the input if the
-    /// envelope cannot be unwrapped.
+    /// Unwraps the complete envelope, and reports the document inside the envelope. Rejects the input with `NotWhole`
+    /// if the envelope cannot be unwrapped.
     fn find_taken(&mut self) -> Result<(), AllocError>
         requires { self.old.wanted ≡ Wanted.Unfolded }
         ensures { OnOk result (state_of self.new ≡ document_found (state_of self.old)) }

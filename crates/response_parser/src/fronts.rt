@@ -1,4 +1,4 @@
-//! Passes on long runs of bytes in a document's strings, without storing these bytes.
+//! Passes on bytes in the strings of long documents without storing the bytes.
 ghost use Rattle.std.specs.Prelude.{◌≡◌, ◌<◌, ◌≤◌, ◌==◌, [], false, length, nat_eq, take, true, IfOk, OnOk};
 ghost use Rattle.std.specs.List.{list_all, starts_with};
 ghost use Rattle.doc_envelope.specs.Stored.{made_of};
@@ -16,29 +16,28 @@ use std::alloc::{AllocError, Global};
 /// The minimum number of bytes of a document that the parser stores before it passes bytes on without storing them.
 const LONG: usize = 262_144;
 
-/// The parser builds a front (the beginning of a document's output) only if at least `RUN` consecutive bytes of a
-/// string follow in the bytes of the current read.
+/// The parser builds the beginning of a document's output only if at least `RUN` consecutive bytes of a string follow
+/// in the current read.
 const RUN: usize = 1_024;
 
-/// After an attempt to build a front for a text of n bytes, the parser reads at least n / 4 further bytes before the
-/// next attempt.
+/// After an attempt to build the beginning of a document's output from n stored bytes, the parser reads at least n / 4
+/// further bytes before the next attempt.
 const SHARE: u64 = 4;
 
-/// The beginning of the current document's output, called the front. The caller writes the front (the beginning of a
-/// document's output) before the document ends. The front, which is the beginning of a document's output, is empty if
+/// The beginning of a long document's output, which the caller writes before the document ends. A `Front` is empty if
 /// the caller has not yet written a byte of the current document's output.
 #[derive(Drop)]
 pub struct Front {
     text: Vec<u8>,
-    /// The number of bytes of the current document that the parser had stored when it built the front (the beginning of
-    /// the document's output).
+    /// The number of bytes of the current document that were stored when the text of the `Front` was built.
     length: usize,
-    /// The number of read bytes after which the parser may build a front again.
+    /// The number of input bytes that the parser must have read before it may try again to build the text of the
+    /// `Front`.
     next: u64,
 }
 
 impl Front {
-    /// Creates an empty front.
+    /// Creates an empty `Front`.
     pub fn new(alloc: Global) -> Front
         ensures { front_of result ≡ [] }
     {
@@ -49,24 +48,23 @@ impl Front {
         }
     }
 
-    /// Returns the text of the front (the beginning of the current document's output).
+    /// Returns the beginning of the current document's output.
     pub fn text(&self) -> &[u8]
         ensures { result.now ≡ front_of self.now }
     {
         self.text.as_slice()
     }
 
-    /// Makes the front (the beginning of the document's output) empty, because the document has ended.
+    /// Empties the `Front`, because the current document has ended.
     pub fn end(&mut self)
         ensures { front_of self.new ≡ [] }
     {
         self.text.clear();
     }
 
-    /// Reads a run (consecutive bytes of a string in a long document) without storing the bytes of the run. After the
-    /// call, the caller must write the bytes that the call has added to the front (the beginning of the document's
-    /// output), and then the bytes of the run. Returns the number of bytes in the run, or 0 if the parser must read the
-    /// next bytes itself.
+    /// Reads consecutive bytes of a string in a long document without storing the bytes, and returns their number.
+    /// Returns 0 if the next bytes must be read with `Reading::take_in`. After each call, the caller must write the
+    /// bytes that `pass` added to the `Front`, and then the bytes that `pass` read.
     pub fn pass(&mut self, reading: &mut Reading, bytes: &[u8]) -> Result<usize, AllocError>
         ensures within { IfOk result (λ count. count ≤ length bytes.now) }
         ensures none { IfOk result (λ count. count ≡ 0 → (state_of reading.new ≡ state_of reading.old)
@@ -89,9 +87,9 @@ impl Front {
         Ok(count)
     }
 
-    /// Whether a run of `count` bytes (string bytes that are passed on without being stored) may follow the stored
-    /// text. The front is the beginning of the document's output. If the front is empty, or the stored text has grown
-    /// since the front was built, the call builds the front, within the limits of `RUN` and `SHARE`.
+    /// Whether the next `count` bytes of a string may be passed on without being stored. If the `Front` is empty, or
+    /// the parser has stored more bytes since the `Front` was built, the call builds the text of the `Front`. The call
+    /// builds the text of the `Front` only within the limits of `RUN` and `SHARE`.
     fn may_pass(&mut self, reading: &mut Reading, count: usize) -> Result<bool, AllocError>
         ensures same { OnOk result (state_of reading.new ≡ state_of reading.old) }
         ensures none { IfOk result (λ ok. ok ≡ false → (front_of self.new ≡ front_of self.old)
@@ -117,7 +115,8 @@ impl Front {
         Ok(true)
     }
 
-    /// Whether a text is not empty and begins with the front (the beginning of the document's output).
+    /// Whether a text may replace the text of the `Front`: the new text is not empty, and begins with the text of the
+    /// `Front`.
     fn may_become(&self, text: &[u8]) -> bool
         ensures begins { result ≡ true → starts_with nat_eq text.now (front_of self.now) ≡ true }
         ensures some { result ≡ true → (length text.now == 0) ≡ false }
@@ -141,8 +140,8 @@ impl Reading {
         }
     }
 
-    /// Builds the beginning of the current document's output. Returns `true` only if a run (string bytes that are
-    /// passed on without being stored) may follow the stored text.
+    /// Builds the beginning of the current document's output. Returns `true` only if string bytes that are passed on
+    /// without being stored may follow the stored text.
     fn make_front(&mut self) -> Result<bool, AllocError>
         ensures same { OnOk result (state_of self.new ≡ state_of self.old) }
         ensures starts { IfOk result

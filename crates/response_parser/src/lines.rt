@@ -62,7 +62,8 @@ impl Reading {
         Ok(())
     }
 
-    /// Reads the first byte of a line of a script's output, or of input that is not a response.
+    /// Reads the first byte of a line of a script's output, or of input that the parser rejects because it opens
+    /// neither a list nor an object.
     fn at_begin(&mut self, byte: u8) -> Result<(), AllocError>
         ensures { OnOk result (state_of self.new ≡ at_begin (state_of self.old) byte) }
     {
@@ -243,7 +244,7 @@ impl Reading {
         Ok(())
     }
 
-    /// Reports the complete revision, and sets the parser's place after the revision.
+    /// Reports a complete revision of a `change` line, and continues at the place `place` in the grammar.
     fn end_rev(&mut self, place: Place) -> Result<(), AllocError>
         ensures { OnOk result (state_of self.new ≡ rev_ended place (state_of self.old)) }
     {

@@ -131,7 +131,7 @@ impl Reading {
         Ok(())
     }
 
-    /// Returns the meaning of the current member's name, which determines how the parser reads the member's value.
+    /// Returns the kind of the current member, which determines how the parser reads the member's value.
     fn name(&self) -> Name
         ensures { result ≡ name_in (state_of self.now) }
     {
@@ -145,7 +145,8 @@ impl Reading {
         )
     }
 
-    /// Starts the text of an object that is read as one value, after the object's first name.
+    /// Begins to read an object as one value, after the object's first name. Inserts the object's opening brace before
+    /// the first name in the stored text.
     fn begin_plain(&mut self, name: Name) -> Result<(), AllocError>
         ensures { OnOk result (state_of self.new ≡ plain_begun name (state_of self.old)) }
     {
@@ -178,7 +179,9 @@ impl Reading {
         wants_leaves(self.wanted) && self.depth == 1 && (self.first || self.diff)
     }
 
-    /// Reads a byte before a member's value. If the value is an object, this object is the entry of a document.
+    /// Reads a byte before the value of a member that may be a document's entry in a `_revs_diff` response. If the
+    /// member's value is an object, the member is a document's entry in a `_revs_diff` response, and its name is the
+    /// document's id.
     pub(crate) fn at_ahead(&mut self, name: Name, byte: u8) -> Result<(), AllocError>
         ensures { OnOk result (state_of self.new ≡ at_ahead name (state_of self.old) byte) }
     {
@@ -197,8 +200,8 @@ impl Reading {
         self.in_begun(byte)
     }
 
-    /// Reads the first byte of a member's value. How the parser reads this byte depends on the meaning of the member's
-    /// name.
+    /// Reads the first byte of a member's value, after `begin_as` has set the parser's place according to the member's
+    /// kind.
     fn in_begun(&mut self, byte: u8) -> Result<(), AllocError>
         ensures { OnOk result (state_of self.new ≡ begun_in (state_of self.old) byte) }
     {
@@ -211,7 +214,8 @@ impl Reading {
         }
     }
 
-    /// Starts a member's value, as the meaning of the member's name requires.
+    /// Sets the parser's place before a member's value, according to the member's kind. Rejects a `Foreign` member, and
+    /// a member `changes` that no `id` precedes.
     fn begin_as(&mut self, name: Name)
         ensures { state_of self.new ≡ begun_as name (state_of self.old) }
     {
@@ -222,7 +226,8 @@ impl Reading {
         }
     }
 
-    /// Starts a member's value after the colon.
+    /// Sets the parser's place before a member's value, and records facts about the member's object that follow from
+    /// the member's kind.
     fn begin_value(&mut self, name: Name)
         ensures { state_of self.new ≡ value_begun name (state_of self.old) }
     {
@@ -249,7 +254,7 @@ impl Reading {
     }
 }
 
-/// Returns the parser's place at the start of a member's value, by the meaning of the member's name.
+/// Returns the parser's place before the first byte of a member's value, given the member's kind.
 fn value_place(name: Name) -> Place
     ensures { result ≡ value_place name }
 {
@@ -260,29 +265,29 @@ fn value_place(name: Name) -> Place
     }
 }
 
-/// Whether the parser knows the meaning of a member's name.
+/// Whether a member's kind keeps the parser from skipping the object that has the member.
 fn is_known(name: Name) -> bool
     ensures { result ≡ is_known name }
 {
     !matches!(name, Name::Other | Name::Id | Name::Reason)
 }
 
-/// Whether an object with this first name is read as one value.
+/// Whether the parser reads an object as one value, given the kind of the object's first member.
 pub(crate) fn is_plain(name: Name) -> bool
     ensures { result ≡ is_plain name }
 {
     matches!(name, Name::Plain | Name::Item)
 }
 
-/// Whether a member's name means that its value is a document id.
+/// Whether a member's value is a document id, given the member's kind.
 fn is_id(name: Name) -> bool
     ensures { result ≡ is_id name }
 {
     matches!(name, Name::Id)
 }
 
-/// Whether a member's name means that its value is a document's list of revisions, or the outermost object's list
-/// `docs`.
+/// Whether a member's value is a document's list of revisions or the outermost object's list `docs`, given the member's
+/// kind.
 fn is_inner(name: Name) -> bool
     ensures { result ≡ is_inner name }
 {

@@ -21,43 +21,46 @@ pub enum Wanted {
     Changes,
 }
 
-/// What the name of a member means for the member's value.
+/// The kind of a JSON member, which the parser derives from the member's name. A member's kind says how the parser
+/// reads the member's value.
 #[derive(Clone, Copy, Debug, PartialEq, Eq)]
 pub enum Name {
-    /// The object that has the member is a document.
+    /// A member `_id` that comes first in an object, which is therefore a document or a log.
     Plain,
-    /// The object that has the member is an item of the outermost object's member `docs`, and a document if the object
-    /// has a member `_id`.
+    /// A first member other than `_id` in an item of the outermost object's list `docs`. An item of the list `docs` is
+    /// a document if it has a member `_id`.
     Item,
-    /// A document.
+    /// A member `ok` or `doc`, whose value is a document if it is an object.
     Document,
-    /// A document id.
+    /// A member `id`, whose value is a document id.
     Id,
-    /// The value is a list of objects, which may be documents or leaves.
+    /// A member whose value is a list of objects, which may be documents or leaves.
     List,
-    /// The value is the list `docs` of an outermost object.
+    /// The member `docs` of an outermost object, whose value is a list of objects.
     Docs,
-    /// The value is a list of revisions of a document, whose id precedes the list in the same object.
+    /// A member `changes`, whose value is the list of revisions of a document whose id precedes the list in the same
+    /// object.
     Changes,
-    /// The value is a revision in a document's list of revisions.
+    /// A member `rev` in a document's list of revisions.
     Rev,
-    /// The value is a list of missing revisions in a `_revs_diff` response.
+    /// A member `missing` in a `_revs_diff` response, whose value is a list of missing revisions.
     Missing,
-    /// The response has this value instead of a document, for example an error. The parser skips the value of the
-    /// member.
+    /// A member, such as `missing` or `error`, that a response has instead of a document. The parser skips and counts a
+    /// value that a response has instead of a document.
     Passed,
-    /// A member of an object without documents, which is not skipped: `last_seq` ends a changes feed, and `db_info`
-    /// belongs to the first object of a PouchDB dump.
+    /// A member `last_seq` or `db_info`, because of which the parser does not count an object without documents as
+    /// skipped. The member `last_seq` ends a changes feed, and `db_info` belongs to the first object of a PouchDB dump.
     Last,
-    /// The first member `seq` of an outermost object. In a PouchDB dump, an object may have only this member.
+    /// A member `seq` that comes first in an outermost object. An outermost object with only the member `seq` belongs
+    /// to a PouchDB dump.
     Seq,
     /// The member `error` of a CouchDB error.
     Error,
     /// The member `reason` of a CouchDB error.
     Reason,
-    /// The parser ignores the value of the member.
+    /// A member whose value the parser ignores.
     Other,
-    /// The parser rejects the value, because the input is not a known response.
+    /// A member that the parser rejects with `NoDocument`, because the member's object cannot be a document.
     Foreign,
 }
 
@@ -121,7 +124,7 @@ pub enum LinePlace {
     Rest,
     /// The next byte is in the sequence of a `change` line.
     Seq,
-    /// The next byte is before the document id of a `change` line.
+    /// The next byte must be the opening quotation mark of the document id in a `change` line.
     BeforeId,
     /// The next byte is in the document id of a `change` line.
     Id,
@@ -138,28 +141,29 @@ pub enum LinePlace {
 /// The parser's place in a list of missing revisions, which says what the next byte belongs to.
 #[derive(Clone, Copy, Debug, PartialEq, Eq)]
 pub enum RevPlace {
-    /// The next byte is before the opening bracket of the list.
+    /// The next byte must be white space or the opening bracket of a list of missing revisions.
     List,
-    /// The next byte follows the opening bracket of the list.
+    /// The next byte follows the opening bracket of a list of missing revisions.
     First,
-    /// The next byte follows a comma in the list.
+    /// The next byte follows a comma in a list of missing revisions.
     Next,
-    /// The next byte is in the string of a revision that the list names as missing.
+    /// The next byte is in a string of a list of missing revisions.
     Rev,
-    /// The next byte follows a backslash in the string of a revision that the list names as missing.
+    /// The next byte follows a backslash in a string of a list of missing revisions.
     Escape,
-    /// The next byte follows the string of a revision that the list names as missing.
+    /// The next byte follows a complete string in a list of missing revisions.
     Behind,
 }
 
 /// The parser's place in a response, which says what the next byte belongs to.
 #[derive(Clone, Copy, Debug, PartialEq, Eq)]
 pub enum Place {
-    /// The next byte is before the first response, in input that must have a response.
+    /// The parser has not yet found the first byte of a response, and the input must have a response.
     Start,
-    /// The next byte is before the first response, in input that may have no response.
+    /// The parser has not yet found the first byte of a response, and the input may be empty.
     Begin,
-    /// The next byte is one of the first bytes of input that may be multipart or begin with a byte order mark.
+    /// The next byte is one of the first bytes of input that may have a known format other than a response, such as
+    /// HTML.
     Sign,
     /// The next byte follows a response.
     Between,
@@ -173,7 +177,7 @@ pub enum Place {
     Member,
     /// The next byte follows a comma between two members of an object.
     NextMember,
-    /// The next byte follows a member whose value is a list of objects.
+    /// The next byte follows a member whose value is a list or a document's entry.
     AfterMember,
     /// The next byte is in a member's name.
     Key,
@@ -181,9 +185,9 @@ pub enum Place {
     KeyEscape,
     /// The next byte follows a member's name.
     Colon(Name),
-    /// The next byte is before a value that may be the entry of a document.
+    /// The next byte follows a colon, and may begin a document's entry in a `_revs_diff` response.
     Ahead(Name),
-    /// The next byte is before the opening bracket of a list.
+    /// The next byte must be white space or the opening bracket of a list of objects.
     List,
     /// The next byte is in a member's value.
     Value(Name),

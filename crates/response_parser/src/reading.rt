@@ -26,11 +26,11 @@ pub struct Reading {
     pub(crate) named: bool,
     /// Whether the current member is the first member of its object.
     pub(crate) first: bool,
-    /// Whether the innermost open list is a document's list of revisions.
+    /// Whether the innermost open list is a document's list of revisions, or the list `docs` of an outermost object.
     pub(crate) inner: bool,
     /// Whether the current response is a response of `_revs_diff`.
     pub(crate) diff: bool,
-    /// Whether the parser has read a member `error` whose value is a string since it last entered or left a list or an
+    /// Whether the parser has read a member `error` with a string, and has since neither entered nor left a list or
     /// object that it searches.
     pub(crate) failed: bool,
     /// The number of brackets of the current value that are open.
@@ -40,7 +40,8 @@ pub struct Reading {
     /// The text of CouchDB's last error in the input.
     pub(crate) error: Vec<u8>,
     pub(crate) found: Found,
-    /// The number of skipped documents: objects without a document, values instead of a document, and lines `refused`.
+    /// The number of skipped entries: objects without documents, values (such as errors) instead of documents, and
+    /// script output lines that begin with `refused`.
     pub(crate) passed: u64,
     /// The number of bytes that the parser has read.
     pub(crate) taken: u64,

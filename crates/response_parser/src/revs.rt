@@ -70,7 +70,7 @@ impl Reading {
         self.add(byte)
     }
 
-    /// Reads a byte of a missing revision.
+    /// Reads a byte of a string in a list of missing revisions.
     fn in_missing(&mut self, byte: u8) -> Result<(), AllocError>
         ensures { OnOk result (state_of self.new ≡ in_missing (state_of self.old) byte) }
     {
@@ -83,7 +83,7 @@ impl Reading {
         Ok(())
     }
 
-    /// Ends a revision.
+    /// Reports the complete string of a missing revision, or rejects the string if it is not JSON.
     fn end_missing(&mut self) -> Result<(), AllocError>
         ensures { OnOk result (state_of self.new ≡ missing_ended (state_of self.old)) }
     {
@@ -96,7 +96,7 @@ impl Reading {
         Ok(())
     }
 
-    /// Reads a byte after a backslash in a missing revision.
+    /// Reads the byte after a backslash in a string of a list of missing revisions.
     fn in_missing_escape(&mut self, byte: u8) -> Result<(), AllocError>
         ensures { OnOk result (state_of self.new ≡ in_missing_escape (state_of self.old) byte) }
     {
@@ -105,7 +105,7 @@ impl Reading {
         Ok(())
     }
 
-    /// Reads a byte after a missing revision.
+    /// Reads a byte after a string in a list of missing revisions.
     fn after_missing(&mut self, byte: u8)
         ensures { state_of self.new ≡ after_missing (state_of self.old) byte }
     {

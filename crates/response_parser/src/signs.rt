@@ -1,4 +1,5 @@
-//! Detects known formats that are not responses by their first bytes: multipart, and text with a byte order mark.
+//! Recognizes, by its first bytes, input of a known format that is not a response: gzip, HTML, HTTP headers, multipart,
+//! or a byte order mark.
 ghost use Rattle.std.specs.Prelude.{◌≡◌, OnOk};
 ghost use Rattle.response_parser.specs.Stored.{state_of};
 ghost use Rattle.response_parser.specs.Signs.{begins_sign, sign_of, in_sign, sign_begun};
@@ -9,7 +10,7 @@ use crate::spelling::is;
 use std::alloc::AllocError;
 
 impl Reading {
-    /// Reads the first byte of input that may be multipart or begin with a byte order mark.
+    /// Reads the first byte of input that may have a known format other than a response.
     pub(crate) fn begin_sign(&mut self, byte: u8) -> Result<(), AllocError>
         ensures { OnOk result (state_of self.new ≡ sign_begun (state_of self.old) byte) }
     {
@@ -17,8 +18,8 @@ impl Reading {
         self.in_sign(byte)
     }
 
-    /// Reads a further byte at the beginning of the input, as long as the input may be multipart or begin with a byte
-    /// order mark.
+    /// Reads a further byte at the beginning of the input, as long as the input may have a known format other than a
+    /// response.
     pub(crate) fn in_sign(&mut self, byte: u8) -> Result<(), AllocError>
         ensures { OnOk result (state_of self.new ≡ in_sign (state_of self.old) byte) }
     {
@@ -33,7 +34,7 @@ impl Reading {
     }
 }
 
-/// Whether a text is a proper prefix of a multipart boundary's first bytes or of a byte order mark.
+/// Whether a text is a proper prefix of the first bytes by which the parser recognizes a known format, such as HTML.
 fn begins_sign(text: &[u8]) -> bool
     ensures { result ≡ begins_sign text.now }
 {

@@ -39,10 +39,10 @@ fn is_either(text: &[u8], one: &[u8], other: &[u8]) -> bool
     is(text, one) || is(text, other)
 }
 
-/// Returns what a member's name, which is given with its quotation marks, means for the member's value. `first` says
-/// whether the member is the first member of its object. `inner` says whether the member is in a document's list of
-/// revisions, or in an item of the outermost object's list `docs`. `diff` says whether the input is a response of
-/// `_revs_diff`. `depth` is the number of lists and objects that are open.
+/// Returns the kind of a JSON member whose name, with its quotation marks, is `text`. `first` says whether the member
+/// is the first member of its object. `inner` says whether the member is in a document's list of revisions, or in an
+/// item of the outermost object's list `docs`. `diff` says whether the input is a response of `_revs_diff`. `depth` is
+/// the number of lists and objects that are open.
 #[tactic(auto, unfolding(crate::specs::Names::name_of))]
 pub(crate) fn name_of(
     wanted: Wanted,
@@ -63,7 +63,7 @@ pub(crate) fn name_of(
     wanted_name(wanted, first, inner, diff && depth == 2, depth == 1, text)
 }
 
-/// Returns the meaning of a member's name, depending on what the caller requested.
+/// Returns the kind of a JSON member with the name `text`, which depends on the caller's request `wanted`.
 fn wanted_name(
     wanted: Wanted,
     first: bool,
@@ -84,8 +84,9 @@ fn wanted_name(
     }
 }
 
-/// Returns the meaning of a member's name if the caller requested documents. `item` says whether the member is in an
-/// item of the outermost object's list `docs`, and `outermost` whether the member is in an outermost object.
+/// Returns the kind of a JSON member with the name `text`, for a caller that requested documents. The flag `item` says
+/// whether the member is in an item of the outermost object's list `docs`. The flag `outermost` says whether the member
+/// is in an outermost object.
 #[inline(always)]
 fn name_of_documents(strict: bool, first: bool, item: bool, outermost: bool, text: &[u8]) -> Name
     ensures { result ≡ document_name strict first item outermost text.now }
@@ -115,8 +116,8 @@ fn name_of_documents(strict: bool, first: bool, item: bool, outermost: bool, tex
     }
 }
 
-/// Returns the meaning of a member `_id` if the caller requested documents. A document that does not begin with `_id` is
-/// skipped, or rejected for a strict request.
+/// Returns the kind of a JSON member `_id`, for a caller that requested documents. A member `_id` that is not the first
+/// member of its object is skipped, or rejected if `strict` is true.
 #[inline(always)]
 fn name_of_id(strict: bool, first: bool) -> Name
     ensures { result ≡ id_name strict first }
@@ -130,7 +131,8 @@ fn name_of_id(strict: bool, first: bool) -> Name
     }
 }
 
-/// Returns the meaning of a name of an outermost object, if the name belongs to a PouchDB dump.
+/// Returns the kind of an outermost object's member with the name `text`, which is `Last` or `Seq` for members of a
+/// PouchDB dump, and otherwise `Other`.
 fn name_of_outermost(first: bool, text: &[u8]) -> Name
     ensures { result ≡ outermost_name first text.now }
 {
@@ -143,7 +145,8 @@ fn name_of_outermost(first: bool, text: &[u8]) -> Name
     }
 }
 
-/// Returns the meaning of a member's name if the caller requested document ids and revisions.
+/// Returns the kind of a JSON member with the name `text`, for a caller that requested document ids and revisions
+/// (`Leaves`).
 fn name_of_leaves(inner: bool, entry: bool, text: &[u8]) -> Name
     ensures { result ≡ leaf_name inner entry text.now }
 {
@@ -172,7 +175,8 @@ fn name_of_leaves(inner: bool, entry: bool, text: &[u8]) -> Name
     }
 }
 
-/// Returns the meaning of a member's name if the caller requested the changes in a script's output.
+/// Returns the kind of a JSON member with the name `text`, for a caller that requested the `change` lines of a script's
+/// output.
 fn name_of_changes(first: bool, text: &[u8]) -> Name
     ensures { result ≡ change_name first text.now }
 {

@@ -236,8 +236,8 @@ fn first_of(text: &[u8]) -> u8
     if text.is_empty() { 0 } else { text[0] }
 }
 
-/// Returns the kind of item that a member completes, given the meaning of the member's name and the first byte of the
-/// member's value.
+/// Returns the kind of item that the parser reports for a member's value, given the member's kind `name` and the
+/// value's first byte `first`.
 fn found_of(name: Name, first: u8) -> Found
     ensures { result ≡ found_of name first }
 {
@@ -260,8 +260,8 @@ fn passes(name: Name, first: u8) -> bool
     }
 }
 
-/// Returns the reason why the parser rejects a value. Either the value's name requires a string and the value is not a
-/// string, or the value is the `reason` of a CouchDB error.
+/// Returns the reason why the parser rejects a member's value, or `None`. The parser rejects a value that must be a
+/// string and is not a string, and a string that is the `reason` of a CouchDB error.
 fn refusal_of(name: Name, first: u8, failed: bool) -> Option<Refusal>
     ensures { result ≡ refusal_of name first failed }
 {
@@ -272,21 +272,21 @@ fn refusal_of(name: Name, first: u8, failed: bool) -> Option<Refusal>
     }
 }
 
-/// Whether an object with this first name is an item of the outermost object's list `docs`.
+/// Whether a member is the first member of an item of the list `docs`, and is not `_id`.
 fn is_item(name: Name) -> bool
     ensures { result ≡ is_item name }
 {
     matches!(name, Name::Item)
 }
 
-/// Whether a member's name means the `seq` of a PouchDB dump.
+/// Whether a member is the `seq` of a PouchDB dump.
 fn is_seq(name: Name) -> bool
     ensures { result ≡ is_seq name }
 {
     matches!(name, Name::Seq)
 }
 
-/// Whether a member's name means the `error` or the `reason` of a CouchDB error.
+/// Whether a member is the `error` of a CouchDB error.
 fn is_error(name: Name) -> bool
     ensures { result ≡ is_error name }
 {

@@ -18,7 +18,8 @@ pub(crate) fn wants_leaves(wanted: Wanted) -> bool
     matches!(wanted, Wanted::Leaves)
 }
 
-/// Whether the caller of the parser requested the changes in a script's output (`Changes`).
+/// Whether the caller of the parser requested the document ids and revisions in the `change` lines of a script's output
+/// (`Changes`).
 pub(crate) fn wants_changes(wanted: Wanted) -> bool
     ensures { result ≡ wants_changes wanted }
 {

@@ -14,7 +14,7 @@ abbrev pub IsCopyOf : State → List ℕ → BackupValue → Type 0
 IsCopyOf s n b = (k : NamedBackupValue) × Among k s.backups × (k.db ≡ n) × (k.backup ≡ b)
 
 -- The databases of a script are a network whose keys are the names of the databases (`IsNetwork`). For every selection,
--- each database with its backups is therefore consistent, as a source, with each database as a target.
+-- any database as a replication's source, with its backups, is consistent with any database as the target.
 abbrev pub IsConsistent : State → Type 0
 IsConsistent s = IsNetwork (peer_at s) (IsCopyOf s)
 

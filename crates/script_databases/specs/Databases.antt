@@ -99,7 +99,7 @@ peer_at s name = finmap.get s.peers name
 abbrev pub with_peer : State → List ℕ → PeerValue → State
 with_peer s name p = record s { peers = finmap.insert s.peers name p }
 
--- The UUID `uuid` belongs to a database of state s.
+-- In state s of a script, a database has the UUID `uuid`.
 abbrev pub IsTaken : State → ℕ → Type 0
 IsTaken s uuid = (name : List ℕ) × (p : PeerValue) × (peer_at s name ≡ Some p) × (p.db.uuid ≡ uuid)
 

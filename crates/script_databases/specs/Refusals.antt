@@ -88,14 +88,14 @@ target_refusal target.BadBatch = why.BadBatch
 target_refusal target.SamePeer = why.SamePeer
 target_refusal target.Memory = why.Memory
 
--- The low water of the error `Unfinished`, if a replication returned this error. For every other error of a
--- replication, the error with which the line fails.
+-- The low water, if a replication returned the error `Unfinished`. If a replication returned an error other than
+-- `Unfinished`, the error with which the script line fails.
 abbrev pub stop_of : TargetFault → Result ℕ Refusal
 stop_of (target.Unfinished low_water) = Ok low_water
 stop_of fault = Err (target_refusal fault)
 
--- The low water of the error `Unfinished`, if a pool run returned this error. For every other error of a pool run, the
--- error with which the line fails.
+-- The low water, if a replication with a pool of threads returned the error `Unfinished`. If a replication with a pool
+-- returned an error other than `Unfinished`, the error with which the script line fails.
 abbrev pub run_stop_of : PoolFault → Result ℕ Refusal
 run_stop_of pool.NoWorkers = Err why.NoWorkers
 run_stop_of pool.TooManyWorkers = Err why.TooManyWorkers
@@ -108,7 +108,7 @@ run_stop_of pool.CountFull = Err why.CountFull
 run_stop_of pool.BoardFull = Err why.BoardFull
 run_stop_of pool.Memory = Err why.Memory
 
--- The given result, but if the result is an error, function `name` has converted the error to an error of a line.
+-- The result of a call, with an error converted by the function `name` to the error of a script line.
 abbrev pub told_as : {A E : Type 0} → (E → Refusal) → Result A E → Result A Refusal
 told_as name (Ok x) = Ok x
 told_as name (Err fault) = Err (name fault)

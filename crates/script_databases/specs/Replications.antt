@@ -37,10 +37,11 @@ with_both old source target s t = with_peer (with_peer old source s) target t
 -- peers".
 --
 -- At the source, a replication by one thread changes only the source's logs. At the target, the state after the
--- replication is later than the state before (`IsLaterPeer`). For every selection and all backups of the source, peers
--- that were tied before a replication are tied after the replication. If a replication succeeded, the report is the
--- report of its session. If a replication succeeded and the two peers were tied before, the target covers the source's
--- selected feed. If a replication between tied peers failed, the error is one that `IsExpected` lists.
+-- replication is later than the state before (`IsLaterPeer`). For every selection and all backups of the source,
+-- consistent peers stay consistent, even if a replication between them fails. If a replication succeeded, its report
+-- describes the session that the replication began at the target. If a replication between consistent peers succeeded,
+-- the target covers the source's selected feed. If a replication between consistent peers failed, `IsExpected` lists
+-- the error.
 pub record KeepsTied (s t : PeerValue) (plan : Plan) (result : Result Report TargetFault) (s' t' : PeerValue) : Type 0
   where
     pub log : s' ≡ record s { outgoing = s'.outgoing }
@@ -61,12 +62,13 @@ ReplicatesAlone old source target s t plan result new =
 
 -- ---- by the pool
 
--- The gate may stop a worker at the given place (a point at which a worker calls the gate). This is false for every
--- place.
+-- Whether the gate, a callback that workers call at each stage, may stop a worker at the stage `place`. In a script,
+-- the gate never stops a worker.
 abbrev pub Nowhere : Place → Type 0
 Nowhere place = ⊥
 
--- The results that a pool run may have, including errors, and the script's state after the run.
+-- The results that a replication with a pool of threads may have, including errors, and the script's state after the
+-- replication.
 abbrev pub ReplicatesByPool : State → List ℕ → List ℕ → PeerValue → PeerValue → Plan → Result Report PoolFault → State
     → Type 0
 ReplicatesByPool old source target s t plan result new =
@@ -77,14 +79,15 @@ ReplicatesByPool old source target s t plan result new =
 
 -- ---- with a progress board
 
--- The result of a pool run with a progress board, but without the board's counts.
+-- The result of a replication with a pool of threads and a progress board, but without the board's counts.
 abbrev pub unwatched : Result Watched PoolFault → Result Report PoolFault
 unwatched (Ok watched) = Ok watched.report
 unwatched (Err why) = Err why
 
--- The results that a pool run with a progress board may have, and the script's state after the run. If the run
--- succeeds, the settled count in the result is at most the read count. If the plan is valid but the board could not be
--- allocated, the result is `Memory`, and the script's state is unchanged.
+-- The results that a replication with a pool of threads and a progress board may have, and the script's state after the
+-- replication. If a replication with a progress board succeeds, the settled count in its result is at most the read
+-- count. If the plan is valid but the board could not be allocated, the result is `Memory`, and the script's state is
+-- unchanged.
 abbrev pub ReplicatesWatched : State → List ℕ → List ℕ → PeerValue → PeerValue → Plan → Result Watched PoolFault
     → State → Type 0
 ReplicatesWatched old source target s t plan result new =

@@ -19,7 +19,7 @@ by_text value entries = finmap.from_entries (map (λ e. (string_bytes e.0, value
 abbrev pub Entries : Type 0
 Entries = List (String Global × (Rules × PeerValue))
 
--- The peers of a stored table, by name.
+-- The peers in the stored table of a script's databases, by the databases' names.
 abbrev pub peers_of : Entries → FinMap text_cmp PeerValue
 peers_of entries = by_text (λ p. p.1) entries
 
@@ -54,7 +54,7 @@ IsEmptied old source target new =
     × (peers_of new ≡ finmap.insert (finmap.insert (peers_of old) source p.1) target q.1)
     × (denied_of new ≡ finmap.insert (finmap.insert (denied_of old) source (deny_of p.0)) target (deny_of q.0))
 
--- The value by which contracts describe the program's settings.
+-- The model of the program's settings in contracts: the settings, with strings as lists of bytes.
 abbrev pub program_of : Settings → Program
 program_of s =
     record {

@@ -53,8 +53,8 @@ pub struct Databases {
     backups: Backups,
 }
 
-// This type has no `#[derive(Drop)]`, so that the code that drops its values is proved only once (docs/DECISIONS.md,
-// "Letting values go").
+// `Drop` is implemented by hand because the derived code would be proved again in each crate that owns a `Databases`
+// (docs/DECISIONS.md, "Letting values go").
 impl Drop for Databases {
     fn drop(self) {
         let Databases {
@@ -100,8 +100,8 @@ impl Databases {
         })
     }
 
-    /// Has no effect at run time, but gives proofs the invariant of the databases: all databases are consistent with each
-    /// other (docs/PROFILE.md, "Tied databases").
+    /// Has no effect at run time, but gives proofs the invariant of the databases: all databases are consistent with
+    /// each other (docs/PROFILE.md, "Tied databases").
     pub fn law(&self)
         ensures { IsConsistent self.now }
     {
@@ -256,9 +256,12 @@ impl Databases {
     ///
     /// # Errors
     ///
-    /// The call first checks for `NoDatabase` (the name is unknown), and then for `NoBackup` (the database has no
-    /// backup of this name). The call then checks for `IsTarget` (the database has been a replication target), and last
-    /// for `LifeFull` (no life is left).
+    /// Checked in this order:
+    ///
+    /// - `NoDatabase`: no database has the name `db`.
+    /// - `NoBackup`: the database has no backup of the name `name`.
+    /// - `IsTarget`: the database has been a replication target.
+    /// - `LifeFull`: no life is left for the restored database.
     pub fn put_back(&mut self, db: &str, name: &str) -> Result<PutBack, Refusal>
         ensures answer { GivesOrMemory result
             (put_back_answer (peer_at self.old db.now) (backup_at self.old db.now name.now)) }
@@ -279,7 +282,8 @@ impl Databases {
         Ok(PutBack { seq, life })
     }
 
-    /// Replicates between two existing databases with the pool. The call blocks until the run has ended.
+    /// Replicates from one existing database to another with a pool of threads. `replicate` blocks until the
+    /// replication has ended.
     ///
     /// A plan that is rejected at the start changes nothing. A replication from a database to itself is rejected
     /// at the start.
@@ -353,7 +357,7 @@ impl Databases {
         with_reading(&board, &mut viewer, outcome)
     }
 
-    /// Replicates between two existing databases with one thread.
+    /// Replicates from one existing database to another with one thread.
     ///
     /// A plan that is rejected at the start changes nothing. A replication from a database to itself is rejected
     /// at the start.

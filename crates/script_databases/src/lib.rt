@@ -1,7 +1,7 @@
 //! The databases of a script: peers by name, the program's settings, and generated ids.
 //!
-//! Each call returns a value or the error of the line (`Refusal`). This crate does not depend on the format of a
-//! script's lines.
+//! The errors with which a script line may fail are the variants of `Refusal`. This crate does not depend on the format
+//! of a script's lines.
 #![tactic(auto)]
 
 mod backups;

@@ -53,7 +53,8 @@ pub enum Refusal {
     DatabaseExists,
     /// The requested log has no entries.
     EmptyLog,
-    /// A backup is from a different database. No line is expected to fail with `ForeignBackup`.
+    /// A backup of one database was given to restore another database. No line is expected to fail with
+    /// `ForeignBackup`.
     ForeignBackup,
     /// A parcel belongs to no window of the session. No line is expected to fail with `ForeignParcel`.
     ForeignParcel,
@@ -70,7 +71,7 @@ pub enum Refusal {
     GoalBelowStart,
     /// A worker was stopped. No line is expected to fail with `Halted`.
     Halted,
-    /// The target does not cover a leaf of the source. No line is expected to fail with `Hole`.
+    /// At least one leaf of the source is not covered by the target. No line is expected to fail with `Hole`.
     Hole,
     /// The database has been a replication target.
     IsTarget,
@@ -88,7 +89,8 @@ pub enum Refusal {
     NoneChosen,
     /// A document has no revision id.
     NoRev,
-    /// A session's base session does not exist. No line is expected to fail with `NoSuchBase`.
+    /// The earlier session that a new session continues does not exist at the target. No line is expected to fail with
+    /// `NoSuchBase`.
     NoSuchBase,
     /// The database has no document with the given id.
     NoSuchDocument,
@@ -124,8 +126,8 @@ pub enum Refusal {
     SessionExists,
     /// A special member is unknown, or `_deleted` is not a Boolean.
     SpecialMember,
-    /// A session starts above the recorded sequence of its base session. No line is expected to fail with
-    /// `StartAboveBase`.
+    /// A session starts above the recorded sequence of the earlier session that it continues. No line is expected to
+    /// fail with `StartAboveBase`.
     StartAboveBase,
     /// Only part of a window was settled, because no memory or no update sequence was left.
     Stopped,
@@ -209,8 +211,8 @@ impl Refusal {
         }
     }
 
-    /// Returns `Ok` with the low water if a replication failed with `Unfinished`, otherwise `Err` with the error with
-    /// which the line fails.
+    /// Returns `Ok` with the low water if a replication failed with `Unfinished`. For any other error of a replication,
+    /// returns `Err` with the error of the script line.
     pub fn stop_of(fault: TargetFault) -> Result<u64, Refusal>
         ensures { result ≡ stop_of fault }
     {
@@ -220,8 +222,8 @@ impl Refusal {
         }
     }
 
-    /// Returns `Ok` with the low water if a pool run failed with `Unfinished`, otherwise `Err` with the error with
-    /// which the line fails.
+    /// Returns `Ok` with the low water if a replication with a pool of threads failed with `Unfinished`. For any other
+    /// error of a replication with a pool of threads, returns `Err` with the error of the script line.
     pub fn run_stop_of(fault: PoolFault) -> Result<u64, Refusal>
         ensures { result ≡ run_stop_of fault }
     {

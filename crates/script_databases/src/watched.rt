@@ -1,4 +1,4 @@
-//! Pool runs with a progress board.
+//! Replications with a pool of threads that show their progress on a board.
 ghost use Rattle.std.specs.Prelude.{◌≡◌, ◌≤◌, true, IfErr, IfOk, vec_len};
 ghost use Rattle.std.specs.List.{All};
 ghost use Rattle.progress_board.specs.Seats.{CameWith, are_seats};
@@ -11,7 +11,7 @@ use repl_pool::{PoolFault, Seats, board_with_seats};
 use repl_target::Report;
 use std::alloc::Global;
 
-/// The result of a run that reached its goal, with the board's totals after the end of the run.
+/// The result of a replication that reached its goal, with the progress board's totals after the replication.
 #[derive(Clone, Copy, Debug, PartialEq, Eq)]
 pub struct Watched {
     /// The number of documents that all workers settled.
@@ -22,7 +22,7 @@ pub struct Watched {
     pub report: Report,
 }
 
-/// Creates a board for a run, with a seat for each worker and a seat for the viewer.
+/// Creates a progress board for a replication, with a seat for each worker and a seat for the viewer.
 pub fn board_for(
     alloc: Global,
     workers: u64,
@@ -47,7 +47,7 @@ pub fn board_for(
     Ok((board, seats, viewer))
 }
 
-/// Adds the counters of the board to the result of a watched run.
+/// Adds the counters of the progress board to the result of a replication.
 pub fn with_reading(
     board: &Board,
     viewer: &mut BoardSeat,

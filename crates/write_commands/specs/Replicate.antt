@@ -200,7 +200,8 @@ replicated_text session ended = do
   ending ← ended
   Ok (ending_line session ending)
 
--- The result of `replicate` for a selection of documents of two existing databases.
+-- The result of a `replicate` line between two existing databases, given the line's selection of documents, or the
+-- error of an invalid selection.
 abbrev pub ReplicatesChosen : State → ReplicateAsk → PeerValue × PeerValue → Result Choice Refusal → Told → State
     → Type 0
 ReplicatesChosen old ask both (Ok chosen) told new =
@@ -245,8 +246,8 @@ abbrev pub StopsIfAsked : Options → Ending → Type 0
 StopsIfAsked options (Stopped low_water) = options.alone ≡ true → (most : ℕ) × (options.stop_after ≡ Some most)
 StopsIfAsked options ending = Unit {0}
 
--- The errors with which a `replicate` line may fail: `NoDatabase`, `BadMoment`, the error of an invalid selection, and
--- those that `Fails` lists. `Fails` also lists `Memory`.
+-- A `replicate` line may fail with `NoDatabase`, `BadMoment`, the error of an invalid selection, or an error that
+-- `Fails` lists. `Fails` also lists `Memory`.
 abbrev pub MayFail : ReplicateAsk → Refusal → Type 0
 MayFail ask refusal =
     (refusal ≡ why.NoDatabase) ⊎ (refusal ≡ why.BadMoment) ⊎ (choice_given ask.doc_ids ≡ Err refusal)

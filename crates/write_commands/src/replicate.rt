@@ -241,7 +241,7 @@ fn run_plan<H: Threads + Wait + Sync>(
     ending_of_run(databases.replicate(rt, alloc, ask.source, ask.target, plan))
 }
 
-/// Returns how a run of the pool with a progress board ended.
+/// Returns how a replication with a pool of threads and a progress board ended, or the error of the script line.
 fn ending_of_watched(outcome: Result<Watched, PoolFault>) -> Result<Ending, Refusal>
     ensures { result ≡ ending_of_watched outcome }
 {
@@ -251,8 +251,8 @@ fn ending_of_watched(outcome: Result<Watched, PoolFault>) -> Result<Ending, Refu
     }
 }
 
-/// Returns how a run of the pool without a progress board ended. If the plan's limit stopped the run, the run has not
-/// failed.
+/// Returns how a replication with a pool of threads, but without a progress board, ended, or the error of the script
+/// line. If the plan's limit stopped the replication, the replication has not failed.
 fn ending_of_run(outcome: Result<Report, PoolFault>) -> Result<Ending, Refusal>
     ensures { result ≡ ending_of_run outcome }
 {
@@ -265,8 +265,8 @@ fn ending_of_run(outcome: Result<Report, PoolFault>) -> Result<Ending, Refusal>
     }
 }
 
-/// Returns how a replication with one thread ended. If the plan's limit stopped the replication, the replication has
-/// not failed.
+/// Returns how a replication with one thread ended, or the error of the script line. If the plan's limit stopped the
+/// replication, the replication has not failed.
 fn ending_of(outcome: Result<Report, TargetFault>) -> Result<Ending, Refusal>
     ensures { result ≡ ending_of outcome }
 {

@@ -28,14 +28,14 @@ settled_of refuses p parcel (Ok at) = settled_before refuses at.1 (settling_of p
 abbrev pub most_settled : (Document → Bool) → PeerValue → SessionId → ParcelValue → ℕ
 most_settled refuses p session parcel = settled_of refuses p parcel (settle_check p session parcel)
 
--- The target after an allocation failed while a parcel was settled. The target has settled the first n documents of the
--- parcel, but not more documents than it would have settled without the failed allocation.
+-- The target after an allocation failed while a parcel was settled. The target has settled the parcel's first n
+-- documents, but at most the documents that `settle` settles if no allocation fails (`most_settled`).
 abbrev pub after_some : (Document → Bool) → PeerValue → SessionId → ParcelValue → ℕ → PeerValue
 after_some refuses p session parcel n =
     after_stop refuses p session parcel (min n (most_settled refuses p session parcel))
 
--- A call on a target. `Stop` is a call of `settle` that processes at most `settled` documents of the parcel, and then
--- returns an error because an allocation failed.
+-- A call that may change a target: a local write, or a step of a replication. `Stop` is a call of `settle` that
+-- processes at most `settled` documents of the parcel, and then returns an error because an allocation failed.
 pub data Call : Type 0 where
   Load : (doc : Document) → Call
   Edit : (id : Id) (parent : Option RevId) (deleted : Bool) (body : List ℕ) → Call

@@ -56,8 +56,8 @@ checkpoint_of source target chosen = checkpoint_between source target (rep_betwe
 abbrev pub start_between : PeerValue → PeerValue → Choice → ℕ
 start_between source target chosen = start_at (checkpoint_of source target chosen)
 
--- The scope of a new session. A new session's base is the session of the common checkpoint, and a new session's goal is
--- the source's update sequence.
+-- The scope of a new session at the target: its replication id, the source's life number, its base and its goal. A new
+-- session's base is the session of the common checkpoint, and a new session's goal is the source's update sequence.
 abbrev pub scope_between : PeerValue → PeerValue → Choice → Scope
 scope_between source target chosen = record {
   rep = rep_between source target chosen;
@@ -87,12 +87,13 @@ pub record Reading : Type 0 where
 abbrev pub next_window : DatabaseValue → Plan → ℕ → WindowValue
 next_window source plan since = page source since source.update_seq plan.batch plan.chosen
 
--- The parcel that the source returns for window w and target p. The parcel has the source's documents for the leaves of
--- w that p lacks.
+-- The parcel that the source returns for window w and target p: the source's documents for the leaves of w that p
+-- lacks.
 abbrev pub parcel_for : DatabaseValue → PeerValue → WindowValue → ParcelValue
 parcel_for source p w = open_revs source (revs_diff p.db w)
 
--- The plan's session stores window w, and then the parcel is settled with the given result.
+-- Target p appends window w to the plan's session, and then settles `parcel` with the result `result`, which changes
+-- the target to q.
 abbrev pub StoresAndSettles : (Document → Bool) → Plan → PeerValue → WindowValue → ParcelValue
     → Result Settled TargetFault → PeerValue → Type 0
 StoresAndSettles refuses plan p w parcel result q =
@@ -149,7 +150,7 @@ ReadsUntil refuses source plan from why target' =
 
 -- ---- the end
 
--- The target after the plan's session is concluded or, if the session cannot be concluded, recorded.
+-- The target p after a call of `conclude` for the plan's session and, if `conclude` failed, a call of `record`.
 abbrev pub closed_as : PeerValue → Plan → Result Report TargetFault → PeerValue
 closed_as p plan (Ok report) = after_conclude p plan.session plan.at
 closed_as p plan (Err fault) = after_record (after_conclude p plan.session plan.at) plan.session plan.at

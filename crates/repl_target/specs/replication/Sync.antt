@@ -42,23 +42,23 @@ abbrev pub HasRefusedNone : PeerValue → Id → Type 0
 HasRefusedNone p id =
     (s : SessionValue) → Among s p.sessions → (x : RefusedValue) → Among x s.ledger → x.doc.id ≡ id → ⊥
 
--- How the replications in both directions change a document. After both replications, each of the two databases has the
--- other database's leaves of the document. If the document's trees agreed and had complete histories before both
--- replications, both databases have the same document afterwards.
+-- How replications in both directions between databases a and b change document `id`. After replications in both
+-- directions, each of the databases a' and b' has all leaves of document `id` that the other database has. If the trees
+-- of document `id` in databases a and b agree and have complete histories, databases a' and b' have the same document
+-- `id`.
 pub record Meets (a b a' b' : DatabaseValue) (id : Id) : Type 0 where
   pub there : KnowsLeaves b' a' id
   pub back : KnowsLeaves a' b' id
   pub same : Agree (tree_of a.docs id) (tree_of b.docs id) → IsWhole (tree_of a.docs id) → IsWhole (tree_of b.docs id)
       → SameDocument a' b' id
-  -- If the trees agreed and had complete histories before both replications, the trees agree and have complete
-  -- histories afterwards.
+  -- If the document's trees in databases a and b agree, the document's trees in a' and b' agree. If the document's
+  -- trees in databases a and b have complete histories, the document's trees in a' and b' have complete histories.
   pub agree : Agree (tree_of a.docs id) (tree_of b.docs id) → Agree (tree_of a'.docs id) (tree_of b'.docs id)
   pub whole : IsWhole (tree_of a.docs id) → IsWhole (tree_of b.docs id)
       → IsWhole (tree_of a'.docs id) × IsWhole (tree_of b'.docs id)
 
--- If the peers were consistent in both directions (`IsTiedPair`) before both replications, `Meets` is true afterwards
--- for each shared document. A document is shared if both plans select the document, and neither peer has ever refused
--- the document.
+-- If peers a and b were consistent in both directions (`IsTiedPair`), `Meets` is true of each shared document. A
+-- document is shared if both plans select the document, and neither peer has ever refused the document.
 abbrev pub MeetBoth : PeerValue → PeerValue → PeerValue → PeerValue → Plan → Plan → Type 0
 MeetBoth a b a' b' there back =
     IsTiedPair a b there.chosen → IsTiedPair b a back.chosen → (id : Id) → HasRefusedNone a' id → HasRefusedNone b' id

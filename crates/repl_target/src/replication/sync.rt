@@ -14,21 +14,19 @@ use thiserror::Error;
 /// The reports of two replications, one in each direction.
 #[derive(Clone, Copy, Debug, PartialEq, Eq)]
 pub struct Synced {
-    /// The report of the replication from the first peer into the second.
+    /// The report of the forward replication, from peer `a` into peer `b`.
     pub there: Report,
-    /// The report of the replication from the second peer into the first.
+    /// The report of the reverse replication, from peer `b` into peer `a`.
     pub back: Report,
 }
 
 /// The replication that failed (forward or reverse), and the reason why it failed.
 #[derive(Debug, Drop, Error)]
 pub enum SyncFault {
-    /// The replication from the first peer into the second failed. If the forward replication failed, the reverse
-    /// replication did not begin.
+    /// The forward replication, from peer `a` into peer `b`, failed, and the reverse replication did not begin.
     #[error("there: {0}")]
     There(TargetFault),
-    /// The replication from the second peer into the first failed. If the reverse replication failed, the forward
-    /// replication had succeeded.
+    /// The reverse replication, from peer `b` into peer `a`, failed after the forward replication had succeeded.
     #[error("back: {0}")]
     Back(TargetFault),
 }
@@ -40,9 +38,8 @@ pub enum SyncFault {
 /// has the other peer's leaves of each shared document. A document is shared if both plans select the document and
 /// neither peer has ever refused the document. If a shared document's two trees agreed before the call and had complete
 /// histories, both peers then have the same revisions, parents, contents of leaves and winner. Two trees agree if no
-/// revision has different parents or contents in the two trees. Suppose that a call between consistent peers succeeds.
-/// If a shared document's two trees agreed and had complete histories before this call, the two trees still agree and
-/// have complete histories after the call.
+/// revision has different parents or contents in the two trees. After a successful call between consistent peers, a
+/// shared document's two trees agree and have complete histories, if they did so before the call.
 ///
 /// If the peers are consistent in both directions, they stay consistent for every result of the call. Peer `a` stays
 /// consistent with every other peer whose UUID differs from the UUID of `b`. Peer `b` stays consistent with every other
