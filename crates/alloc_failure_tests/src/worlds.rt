@@ -250,8 +250,8 @@ fn ended(alloc: Global, world: &mut World<Rules>) -> Option<(u64, Seen, bool)> {
     Some((entry.recorded, look(world), clean))
 }
 
-/// Calls `ended` with two new peers and no messages in transit. When `of_two` calls `ended`, the `World` value is its
-/// only live variable, because each further variable lengthens the proof.
+/// Calls `ended` with two new peers and no messages in transit. When `of_two` calls `ended`, the `World` value is the
+/// only live variable of `of_two`, because each further variable lengthens the proof.
 fn of_two(alloc: Global) -> Option<(u64, Seen, bool)> {
     let source = Peer::new(alloc, 1, Rules { deny: None });
     let target = Peer::new(alloc, 2, Rules { deny: None });

@@ -106,7 +106,7 @@ pub data Sign : Type 0 where
   moment : Form → List ℕ → Sign
   -- A session's bar in a picture of a replication log. The first two numbers of `chart` are the numbers of documents
   -- that the session wrote and read. The last number of `chart` is the greatest number of documents that one session of
-  -- the log read, or 1.
+  -- the log read, but at least 1.
   chart : Form → ℕ → ℕ → ℕ → Sign
 
 abbrev pub leaf_ink : Form → RevId → Bool → Bool → List ℕ

@@ -13,8 +13,8 @@ none_counted = record { lines = 0; unknown = 0; first = 0 }
 abbrev pub with_line : Tally → Tally
 with_line old = record { lines = counted old.lines 1; unknown = old.unknown; first = old.first }
 
--- The input's line counts after one more line that cannot be output of `couch_replicate`. The field `first` is the line
--- number of the first input line that cannot be output of `couch_replicate`.
+-- The input's line counts after one more line that cannot be output of `couch_replicate`. The field `first` is the
+-- number (without blank lines) of the first input line that cannot be output of `couch_replicate`.
 abbrev pub with_unknown : Tally → Tally
 with_unknown old = record {
   lines = counted old.lines 1;

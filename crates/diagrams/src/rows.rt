@@ -68,8 +68,9 @@ pub fn rows_of(
     Ok(rows)
 }
 
-/// Returns the index of the last row of a drawing that shows a revision of generation `hang`. The call removes the rows
-/// after the returned index from `branches`, because rows of later leaves never branch off a removed row.
+/// Returns the index of the last row of a drawing that shows a revision of generation `hang`, or 0 if `hang` is 0. The
+/// call removes the rows after the returned index from `branches`, because rows of later leaves never branch off a
+/// removed row.
 fn parent_of(branches: &mut Vec<Branch>, hang: u32) -> usize {
     for _ in 0..branches.len() {
         match branches.last() {

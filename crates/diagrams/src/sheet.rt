@@ -109,7 +109,7 @@ pub fn whole_rev(out: &mut Vec<u8>, rev: &Rev) -> Result<(), AllocError>
 /// The number of characters of a short signature.
 const SHORT: usize = 6;
 
-/// Appends a revision's short id (the generation and six characters of the signature) to a picture.
+/// Appends a revision's short id (the generation and at most six characters of the signature) to a picture.
 pub fn short_rev(out: &mut Vec<u8>, rev: &Rev) -> Result<(), AllocError>
     ensures text { OnOk result (out.new.items ≡ out.old.items ++ short_text rev.now) }
     ensures draws { OnOk result (Draws out.old.items out.new.items []) }

@@ -174,6 +174,7 @@ fn draw_column(
 
 /// Draws the edge from the previous column to the column whose first generation is `low`, in the row at index `place`.
 /// If this row branches off an earlier row at the previous column's generation, the edge starts in the earlier row.
+/// Draws nothing if the column is the first column, or the start of a row that does not branch off.
 fn draw_edge(
     out: &mut Vec<u8>,
     low: u32,

@@ -11,8 +11,8 @@ pub struct Tally {
     pub lines: u64,
     /// The number of input lines that cannot be output of `couch_replicate`, for example lines of another program.
     pub unknown: u64,
-    /// The line number of the first input line that cannot be output of `couch_replicate`, or 0 if all input lines can
-    /// be output.
+    /// The number (without blank lines) of the first input line that cannot be output of `couch_replicate`, or 0 if all
+    /// input lines can be output.
     pub first: u64,
 }
 

@@ -45,8 +45,8 @@ abbrev pub unfinished_at : Result ℕ TargetFault → PoolFault
 unfinished_at (Ok low_water) = faults.Refused (refusals.Unfinished low_water)
 unfinished_at (Err why) = faults.Refused why
 
--- A run did not conclude its session, but only recorded the session's low water. A run records its session instead of
--- concluding it if a worker failed or stopped, fewer parcels were received than sent, or concluding failed.
+-- A run did not conclude its session, but only recorded the session's low water. A run only records its session if an
+-- allocation failed, a worker failed or stopped, a sent parcel was not received, or concluding failed.
 pub data IsRecorded (plan : Plan) (fault : Option PoolFault) (complete : Bool) (before after : PeerValue) : PoolFault
     → Type 0 where
   stopped : {why : PoolFault} → fault ≡ Some why → after ≡ after_record before plan.session plan.at

@@ -1,6 +1,6 @@
 -- Defines when two peers, the messages between them and backups are consistent, as specified in docs/PROFILE.md,
--- "Worlds" and "Tied windows and messages". If two peers are consistent, the messages between them and the target's
--- windows come from the source.
+-- "Worlds" and "Tied windows and messages". In a consistent world, each window in transit that has the source's current
+-- life is consistent with the source's database.
 use Rattle.std.specs.Prelude.{◌≡◌, ℕ, ◌≤◌, List, [], Bool, false, Some, None, Result, slice_get}
 use Rattle.doc_json.specs.Document.{Document}
 use Rattle.doc_json.specs.Chosen.{Choice}
