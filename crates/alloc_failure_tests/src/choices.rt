@@ -44,7 +44,7 @@ fn choose(alloc: Global) -> Option<Chosen> {
     }
 }
 
-/// Returns the length of the string of a replication id that has a selection.
+/// Returns the length of the text that `rep_id` returns for a replication of the selected documents.
 fn named(alloc: Global, chosen: &Chosen) -> Option<usize> {
     let Ok(rep) = RepId::new(1, 2, Some(chosen)).ok()?.copy(alloc) else {
         return None;
@@ -144,9 +144,9 @@ fn fill(alloc: Global, source: &mut Peer<Rules>) -> Option<()> {
     Some(())
 }
 
-/// The values that the test observes in a replication of selected documents. The first three values are the length of
-/// the replication id, the number of rows of the page, and the recorded sequence. The last two values are the target's
-/// update sequence, and whether the target has only the selected documents.
+/// The values that the test observes in a replication of selected documents. A `Seen` tuple begins with the length of
+/// the replication id, the number of rows in a page of the feed, and the recorded sequence. A `Seen` tuple ends with
+/// the target's update sequence, and with whether the target covers all selected documents but not all documents.
 type Seen = (usize, usize, u64, u64, bool);
 
 /// Fills the peer `source`, replicates the selected documents into the peer `target`, and returns the values that the

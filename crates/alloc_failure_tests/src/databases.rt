@@ -218,7 +218,8 @@ fn arrived(alloc: Global, window: &Window, parcel: Parcel) -> Result<u64> {
     Ok(db.update_seq())
 }
 
-/// The observed numbers of a replication into an empty database.
+/// The numbers that the test observes in a replication into an empty database, such as the numbers of requested and
+/// fetched documents.
 #[derive(Clone, Copy)]
 struct Counts {
     rows: usize,

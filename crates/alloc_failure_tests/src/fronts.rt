@@ -22,7 +22,7 @@ fn reserved(front: &mut Front) -> Result<(), AllocError> {
 /// The end sequences of the windows that the test appends.
 static ENDS: &[u64] = &[2, 4, 6, 8, 10];
 
-/// Whether all windows could be appended.
+/// Whether `append` succeeds for each end sequence in `ENDS`.
 fn grows(front: &mut Front) -> bool {
     let mut grows = true;
     for hi in ENDS {
@@ -31,7 +31,8 @@ fn grows(front: &mut Front) -> bool {
     grows
 }
 
-/// Whether a window could be finished. The call of `finish` needs no retry, because the test has reserved space.
+/// Whether `reserve` and `finish` succeed for the window of two sequences that starts at `lo`. The call of `finish`
+/// needs no retry, because the test has reserved space.
 fn finishes(front: &mut Front, lo: u64) -> bool {
     reserved(front).is_ok() && front.finish(lo, lo.saturating_add(2)).is_ok()
 }
@@ -39,8 +40,8 @@ fn finishes(front: &mut Front, lo: u64) -> bool {
 /// The start sequences of the windows in the order in which the test finishes them.
 static BEGINNINGS: &[u64] = &[2, 6, 0, 4];
 
-/// Returns the low water (the sequence up to which all windows are done) after finishing the windows, if all windows
-/// could be finished.
+/// Returns the low water (the sequence up to which all windows are done) after appending and finishing the windows, if
+/// all calls succeed.
 fn ended(alloc: Global) -> Option<u64> {
     let mut front = Front::new(alloc, 0);
     let mut well = grows(&mut front);

@@ -5,8 +5,8 @@ use rev_tree::SessionId;
 use std::alloc::{AllocError, Global};
 use test_support::bare_entry;
 
-/// Creates the entry of a session that read nothing. The parameter `recorded` is the session id and also the recorded
-/// sequence.
+/// Creates the entry of a session that read nothing. The number `recorded` becomes the entry's session id, and also the
+/// entry's recorded sequence.
 fn entry(recorded: u64) -> Result<Entry, LogFault> {
     let at = Moment::new(1_381_384_598)?;
     Ok(bare_entry(SessionId(u128::from(recorded)), recorded, at))
@@ -78,7 +78,7 @@ fn from_one(target: u64) -> RepId {
     }
 }
 
-/// Whether six entries, two for each replication, could be stored.
+/// Whether six log entries, two for each of three replications, were stored without an error.
 fn fills(logs: &mut Logs) -> bool {
     let mut fills = true;
     for number in 0..6u64 {
@@ -95,8 +95,8 @@ fn has_two(alloc: Global, logs: &Logs, target: u64) -> bool {
     }
 }
 
-/// Stores log entries of three replications in a `Logs` value, and copies this value. Returns whether the copy has two
-/// entries of each replication.
+/// Stores log entries of three replications in a `Logs` value, and copies this value. Returns whether the copied `Logs`
+/// value has two log entries for each of the three replications.
 fn by_replication(alloc: Global) -> bool {
     let mut logs = Logs::new(alloc);
     if !fills(&mut logs) {

@@ -1,5 +1,6 @@
-//! Calls each function that may allocate, and retries if an allocation fails. Every run therefore prints the same
-//! output, whether or not an allocation fails. The script `.ci/refused-growths` makes each allocation fail in turn.
+//! Calls each function that may allocate, and retries if an allocation fails. Because each failed call is repeated,
+//! every run of the program prints the same output, whether or not an allocation fails. The script
+//! `.ci/refused-growths` makes each allocation fail in turn.
 #![tactic(auto)]
 
 mod backups;

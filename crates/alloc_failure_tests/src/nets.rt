@@ -1,6 +1,7 @@
-//! Calls functions of a network. If an allocation fails in `add`, `load` or `edit`, the network is unchanged. After any
-//! failed allocation, audits find no uncovered leaf. If a hop (a replication between two peers) fails, the test repeats
-//! the hops with other session ids. The repeated hops have the same result as hops without a failed allocation.
+//! Tests that calls of `Net` (a network of peers) handle failed allocations. If an allocation fails in `add`, `load` or
+//! `edit`, the network is unchanged. After any failed allocation, audits find no uncovered leaf. If a hop (a
+//! replication between two peers) fails, the test repeats the hops with other session ids. After the repeated hops, the
+//! sum of the peers' update sequences is the same as if no allocation had failed.
 use crate::peers::{body, doc, doc_id};
 use crate::replications::{is_memory, is_nothing, plan};
 use anyhow::{Result, bail};

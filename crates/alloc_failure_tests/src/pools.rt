@@ -12,8 +12,9 @@ use std::mem;
 use std::sync::Wait;
 use std::thread::Threads;
 
-/// A gate (the object that may block or stop the workers of a run) that never blocks a worker, but whose `may_block`
-/// returns true. A run with the gate `Separate` starts a separate thread for each fetcher and each writer.
+/// A `Gate` (a callback that workers call at each stage of a window) that never blocks a worker, but whose `may_block`
+/// returns true. With `Separate` as the workers' callback, a run of the pool starts a separate thread for each fetcher
+/// and each writer.
 struct Separate;
 
 impl Gate for Separate {
@@ -24,7 +25,7 @@ impl Gate for Separate {
     }
 }
 
-/// The parameters of a run: the gate and the number of workers.
+/// The parameters of a run of the pool: the callback that workers call at each stage, and the number of workers.
 struct Kind<'a, G: Gate> {
     gate: &'a G,
     workers: u64,

@@ -1,5 +1,6 @@
 //! Calls `replicate_alone`. After a failed allocation, an audit finds no uncovered leaf (a leaf of the source that the
-//! target neither stored nor rejected). After this audit, another replication succeeds.
+//! target neither stored nor rejected). If an allocation fails in a replication, a second replication with another
+//! session id succeeds.
 use crate::peers::load;
 use anyhow::{Result, bail};
 use repl_log::Moment;

@@ -97,7 +97,8 @@ fn are_texts(alloc: Global, revs: &[Rev]) -> bool {
     same
 }
 
-/// Whether the copy of an ancestry has the ancestry's revisions, with the expected texts.
+/// Whether a copy of an ancestry has the ancestry's revisions, and `Rev::write` writes the revisions as 3-c, 2-b and
+/// 1-a.
 fn is_copied(alloc: Global, ancestry: &Ancestry) -> Option<bool> {
     let Ok(copy) = copied(alloc, ancestry) else {
         return None;

@@ -1,5 +1,5 @@
-//! Tests queries about two peers. If an allocation fails in a query, the test repeats the query. The repeated query
-//! returns the same result as a query without a failed allocation.
+//! Tests queries about two peers. If an allocation fails in a query, the test repeats the query, and expects the result
+//! of a query without a failed allocation.
 use crate::peers::{doc_id, load};
 use anyhow::{Result, bail};
 use couch_base::Database;
@@ -47,7 +47,8 @@ fn census(alloc: Global, database: &Database) -> Option<Census> {
     }
 }
 
-/// Adds a tree to the counts, and retries if an allocation fails. Checks that a failed call does not change the counts.
+/// Counts the leaves, conflicts and revisions of a tree, and retries if an allocation fails. Checks that a failed call
+/// of `Census::add` changes no count.
 fn counted(alloc: Global, tree: &Tree) -> Option<Census> {
     let mut census = Census::none();
     if census.add(alloc, tree).is_err() {
@@ -131,7 +132,7 @@ fn asked(alloc: Global, source: &Peer<Rules>, target: &Peer<Rules>) -> Option<bo
     Some(of_document == (2, 1, 1) && of_leaves == (2, 2) && totals && counts)
 }
 
-/// Loads the target's documents, and performs all queries (`asked`).
+/// Loads the documents of `TARGET` into a new target, and calls `asked` with the source and the target.
 fn with_target(alloc: Global, source: &Peer<Rules>) -> Option<bool> {
     let mut target = Peer::new(alloc, 2, Rules { deny: None });
     for text in TARGET {
@@ -142,7 +143,7 @@ fn with_target(alloc: Global, source: &Peer<Rules>) -> Option<bool> {
     asked(alloc, source, &target)
 }
 
-/// Loads the source's documents, and performs all queries (`asked`).
+/// Loads the documents of `SOURCE` into a new source, and calls `with_target` with the source.
 fn of_peers(alloc: Global) -> Option<bool> {
     let mut source = Peer::new(alloc, 1, Rules { deny: None });
     for text in SOURCE {

@@ -83,7 +83,8 @@ fn other(alloc: Global) -> Option<Ancestry> {
     }
 }
 
-/// Returns the ancestry 12-l to 1-l. After a merge of this ancestry, a tree has enough revisions to need an index.
+/// Returns the ancestry 12-l to 1-l. After merging the 12 revisions from 12-l to 1-l, a tree with another branch needs
+/// an index.
 fn long(alloc: Global) -> Option<Ancestry> {
     match Sig::parse(b"l") {
         Ok(sig) => of_sigs(alloc, 12, &[sig; 12]),
@@ -91,8 +92,8 @@ fn long(alloc: Global) -> Option<Ancestry> {
     }
 }
 
-/// Returns an ancestry of five revisions, whose signatures have 64, 33, 32, 32 and 17 bytes. A tree stores the first two
-/// signatures in heap blocks.
+/// Returns an ancestry of five revisions, whose signatures have 64, 33, 32, 32 and 17 bytes. A tree stores the first
+/// two signatures in heap blocks.
 fn mixed(alloc: Global) -> Option<Ancestry> {
     match (
         Sig::parse(b"0123456789abcdef0123456789abcdef0123456789abcdef0123456789abcdef"),
@@ -118,8 +119,8 @@ fn merges(alloc: Global, tree: &mut Tree, given: Option<&Ancestry>, wanted: Merg
     }
 }
 
-/// Merges the ancestries of `three`, `other`, `long` and `mixed`, and then the ancestry of `three` again. Returns whether
-/// each merge has the expected result.
+/// Merges the ancestries of `three`, `other`, `long` and `mixed`, and then the ancestry of `three` again. Returns
+/// whether each merge has the expected result.
 fn grows(alloc: Global, tree: &mut Tree) -> bool {
     let three = revisions::three(alloc).ok();
     merges(alloc, tree, three.as_ref(), Merged::Changed)
@@ -174,8 +175,8 @@ fn are_read(alloc: Global, tree: &Tree) -> bool {
     are_read
 }
 
-/// Builds a tree (`grows`), copies the tree, and checks the copy (`are_read`). Returns the copy's numbers of leaves and
-/// revisions, or `None` if a check fails.
+/// Builds a tree (`grows`), copies the tree, and checks the copy (`are_read`). Returns the numbers of leaves and
+/// revisions of the copied tree, or `None` if `grows`, the copying or `are_read` fails.
 fn ended(alloc: Global) -> Option<(usize, usize)> {
     let mut tree = Tree::new(alloc);
     if !grows(alloc, &mut tree) {

@@ -1,10 +1,11 @@
-//! Tests calls of `ValueReader::read_line` with one reader, of `read_line_body` and of `read_line_doc`.
+//! Tests the functions `ValueReader::read_line`, `read_line_body` and `read_line_doc`. One `ValueReader` reads all
+//! texts of the test.
 use anyhow::{Result, bail};
 use doc_json::{Doc, DocFault, read_line_body, read_line_doc, write_doc};
 use json_values::{ReadFault, ValueReader};
 use std::alloc::{AllocError, Global};
 
-/// Compact JSON texts. The second text of this list needs a larger reading buffer than the first text.
+/// Two compact JSON texts, of which the second needs a larger reading buffer than the first.
 static TEXTS: &[&[u8]] = &[
     b"{\"n\":[1,{\"m\":\"x\"}]}",
     b"{\"l\":[{\"a\":\"a text with a \\\" in it\",\"b\":-15},{\"a\":[],\"b\":{\"c\":true}},null]}",

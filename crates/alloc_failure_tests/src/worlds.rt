@@ -28,10 +28,10 @@ struct Seen {
     sizes: (usize, usize, usize, usize, usize),
 }
 
-/// Each row of the table has values that the test may observe after a step has failed, and the index of the step with
-/// which the test then continues. The table has several rows for the step that settles a parcel (a window's documents),
-/// because this step may fail after it has settled a part of the parcel. The test does not observe the source's log and
-/// backups, because the test may repeat the steps that store a log entry or back up the source.
+/// Each entry of `BEFORE` has the values that a failed step may leave, and the index of the step with which the test
+/// continues. Three entries of `BEFORE` are for the step that settles a parcel, which may fail after it has settled a
+/// part of the parcel. The test does not observe the source's log and backups, because the test may repeat the steps
+/// that store a log entry or back up the source.
 static BEFORE: &[(
     u64,
     u64,
@@ -168,14 +168,16 @@ fn steps(alloc: Global) -> Option<Vec<Step>> {
     Some(steps)
 }
 
-/// Returns the observed values of the session, if the session has begun.
+/// Returns the number of windows, the low water and the recorded sequence of the session `SESSION`, if the session has
+/// begun.
 fn session(target: &Peer<Rules>) -> Option<Session> {
     let windows = target.windows(SESSION)?.len();
     let done = target.front(SESSION)?.low_water();
     Some((windows, done, target.entry(SESSION).ok()?.recorded))
 }
 
-/// Returns the observed values of a world.
+/// Returns the source's life, the peers' update sequences, the values of `SESSION`, and the numbers of messages in
+/// transit.
 fn look(world: &World<Rules>) -> Seen {
     Seen {
         life: world.source().db().life(),
@@ -248,8 +250,8 @@ fn ended(alloc: Global, world: &mut World<Rules>) -> Option<(u64, Seen, bool)> {
     Some((entry.recorded, look(world), clean))
 }
 
-/// Calls `ended` with a world of two new peers. The world is the function's only live variable, because each further
-/// variable lengthens the proof.
+/// Calls `ended` with two new peers and no messages in transit. When `of_two` calls `ended`, the `World` value is the
+/// only live variable of `of_two`, because each further variable lengthens the proof.
 fn of_two(alloc: Global) -> Option<(u64, Seen, bool)> {
     let source = Peer::new(alloc, 1, Rules { deny: None });
     let target = Peer::new(alloc, 2, Rules { deny: None });

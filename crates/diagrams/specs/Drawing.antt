@@ -55,21 +55,21 @@ pub record Holds (d : Document) (id : List ℕ) (leaves : List State) : Type 0 w
   pub named : string_bytes d.id ≡ id
   pub read : states d ≡ leaves
 
--- What one line of a script's output changes: the document that is open (incomplete) after the line, and the picture's
--- item that the line completes, if there is one.
+-- Which document is incomplete after a line of a script's output, and which item (document, comparison, row of numbers
+-- or log) the line completes.
 pub data IsNext : Option Document → Told → Option Document → Option Whole → Type 0 where
   -- A line of a script's output that begins a document.
   opened : {old : Option Document} {id : String Global} {count : ℕ} {d : Document} → Holds d (string_bytes id) [] → d.count ≡ count
       → IsNext old (told.Document id count) (Some d) None
-  -- A line of a script's output that prints a leaf of the open (incomplete) document, but not the document's last leaf.
+  -- A line of a script's output that prints a leaf of an incomplete document, but not the document's last leaf.
   more : {d e : Document} {live : Bool} {revs : Vec RevId Global} (r : RevId) → head_of revs.items ≡ Some r
       → Holds e (string_bytes d.id) (with_leaf (states d) r live) → e.count ≡ d.count → vec_len e.leaves < e.count
       → IsNext (Some d) (told.Leaf live revs) (Some e) None
-  -- A line of a script's output that prints the last leaf of the open document, which is then complete.
+  -- A line of a script's output that prints the last leaf of a document, and so completes the document.
   whole : {d e : Document} {live : Bool} {revs : Vec RevId Global} (r : RevId) → head_of revs.items ≡ Some r
       → Holds e (string_bytes d.id) (with_leaf (states d) r live) → e.count ≡ d.count → e.count ≤ vec_len e.leaves
       → IsNext (Some d) (told.Leaf live revs) None (Some (wholes.Tree e))
-  -- A line of a script's output that prints a leaf while no document is open (incomplete).
+  -- A line of a script's output that prints a leaf, although the lines before it leave no document incomplete.
   loose : {live : Bool} {revs : Vec RevId Global} → IsNext None (told.Leaf live revs) None None
   -- A line of a script's output that prints a leaf with an empty list of revisions. Parsing never produces a leaf with
   -- an empty list of revisions.
@@ -77,12 +77,13 @@ pub data IsNext : Option Document → Told → Option Document → Option Whole 
   -- A line of a script's output that prints a document's id and its live leaves.
   conflict : {old : Option Document} {id : String Global} {revs : Vec RevId Global} {e : Document} → Holds e (string_bytes id) (with_all [] revs.items)
       → IsNext old (told.Conflict id revs) None (Some (wholes.Tree e))
-  -- A line of `compare` about a document, or a line of numbers, in a script's output.
+  -- A line that `compare` prints about a document, or a line of numbers that `compare`, `info` or `replicate` prints.
   found : {old : Option Document} {f : Found} → IsNext old (told.Found f) None (Some (wholes.Found f))
   row : {old : Option Document} {r : Row} → IsNext old (told.Row r) None (Some (wholes.Row r))
   -- A line of a script's output that prints a replication log.
   log : {old : Option Document} {l : Log} → IsNext old (told.Log l) None (Some (wholes.Log l))
-  -- A line of a script's output that no picture shows, or a line that is not output of a script.
+  -- A line that pictures do not show: an output line of another kind, or a line that cannot be output of
+  -- `couch_replicate`.
   other : {old : Option Document} → IsNext old told.Other None None
   unknown : {old : Option Document} → IsNext old told.Unknown None None
 
@@ -103,8 +104,8 @@ IsDrawn form db (Some (wholes.Found f)) text = Draws [] text (signs_of_found for
 IsDrawn form db (Some (wholes.Row r)) text = Draws [] text (signs_of_row form r.table (string_bytes r.name) r.numbers.items)
 IsDrawn form db (Some (wholes.Log l)) text = Draws [] text (signs_of_log form (string_bytes l.id) l.entries.items)
 
--- The state of drawing between two lines of the input: the picture's format, the name of the database, the open
--- (incomplete) document, and the counts of lines.
+-- The state of drawing between two lines of the input: the picture's format, the database's name, the incomplete
+-- document, and the counts of lines.
 pub record Sketch : Type 0 where
   pub form : Form
   pub db : Option (List ℕ)
@@ -128,8 +129,8 @@ pub record Takes (old : Sketch) (line : List ℕ) (new : Sketch) (text : List �
   pub tally : new.tally ≡ with_told old.tally told
 
 -- The result of processing a line of a script's output: the drawing of the item that the line completes, or an error.
--- After a failed allocation, the picture has no open document, and the line counts as a line that `couch_replicate`
--- prints.
+-- After a failed allocation, no document is incomplete, and the line is counted as a line that can be output of
+-- `couch_replicate`.
 abbrev pub Pictures : Answering Sketch (List ℕ)
 Pictures old line (Ok text) new = Takes old line new text
 Pictures old line (Err name) new =
@@ -139,7 +140,7 @@ Pictures old line (Err name) new =
 -- ---- everything from a reader
 
 -- The state (`Sketch`) of the conversion of a script's output into a picture, before the conversion reads its first
--- line. The state `first_sketch` has no open (incomplete) document.
+-- line. The state `first_sketch` has no incomplete document.
 abbrev pub first_sketch : Form → Option (List ℕ) → Sketch
 first_sketch form db = record { form = form; db = db; begun = None; tally = none_counted }
 
@@ -195,8 +196,8 @@ pub record IsPicturedUntil (fault : ScriptFault) (form : Form) (db : Option (Lis
   pub written : Appends held held' text
   pub drawn : IsDrawnUntil fault form db input text
 
--- If there is no error, a picture of the reader's remaining bytes is written. After an error, a prefix of a picture is
--- written.
+-- If `draw_answers` succeeds, it has written a complete picture of the script's output that the reader had left. If
+-- `draw_answers` fails, the text that it has written is a prefix of a picture.
 abbrev pub PicturedBy : Result Outcome ScriptFault → Form → Option (List ℕ) → Option (List ℕ) → Option (List ℕ) → Option (List ℕ) → Type 0
 PicturedBy (Ok outcome) form db left held held' = IsPictured form db outcome left held held'
 PicturedBy (Err fault) form db left held held' = IsPicturedUntil fault form db left held held'

@@ -76,35 +76,37 @@ node_label true false = codes "</text><text x=\"14\" y=\"4\">wins, deleted</text
 node_label false true = codes "</text><text x=\"14\" y=\"4\">live</text></g>\n"
 node_label false false = codes "</text><text x=\"14\" y=\"4\">deleted</text></g>\n"
 
--- The form in which a picture shows an input text, in UTF-8.
+-- The UTF-8 bytes with which a picture shows a text of the input. Hidden characters (`is_hidden`) are escaped, and in
+-- SVG also markup characters.
 abbrev pub shown_text : Form → List ℕ → List ℕ
 shown_text form text = encode_utf8_all (shown form (chars text))
 
+-- An item that a picture must show, such as a leaf or a bar.
 pub data Sign : Type 0 where
-  -- A piece of a picture that shows a document id.
+  -- A document id in a picture.
   title : Form → List ℕ → Sign
-  -- A piece of a picture that shows a leaf, whether the leaf is the winner, and whether the leaf is live.
+  -- A leaf in a picture, with its revision, whether the leaf wins, and whether the leaf is live.
   leaf : Form → RevId → Bool → Bool → Sign
-  -- A piece of a picture that shows the command that resolves a leaf's conflict, with the database, the document id and
-  -- the revision.
+  -- The command in a text picture that would delete a losing leaf, with the database, the document id and the leaf's
+  -- revision.
   edit : List ℕ → List ℕ → RevId → Sign
-  -- A piece of a picture that shows a finding of `compare`, with the document id.
+  -- A finding of `compare` in a picture, with the document id.
   found : Form → Finding → List ℕ → Sign
-  -- A piece of a picture that shows a revision in a finding of `compare`.
+  -- A revision in a picture that a finding of `compare` lists.
   listed : RevId → Sign
-  -- A piece of a picture that shows the kind and the name of a line of numbers.
+  -- The heading of a row of numbers in a picture, such as `database` with the database's name.
   heading : Form → Table → List ℕ → Sign
-  -- A piece of a picture that shows one number of a line, with the caption of the number's column.
+  -- One number in a row of numbers in a picture, with the caption of the number's column.
   count : Column → ℕ → Sign
-  -- A piece of a picture that shows a part of a total as a bar.
+  -- A bar in a picture, whose filled part represents a part of a total.
   bar : Form → ℕ → ℕ → Sign
-  -- A piece of a picture that shows a log by the log's replication id.
+  -- The replication id of a log in a picture.
   log : Form → List ℕ → Sign
-  -- A piece of a picture that shows the start time of a session.
+  -- The start time of a session in a picture of a replication log.
   moment : Form → List ℕ → Sign
-  -- A piece of a picture that shows the bar of a session in a log. The first two numbers are the numbers of documents
-  -- that the session wrote and read. The third number is the greatest number of documents that one session of the log
-  -- read.
+  -- A session's bar in a picture of a replication log. The first two numbers of `chart` are the numbers of documents
+  -- that the session wrote and read. The last number of `chart` is the greatest number of documents that one session of
+  -- the log read, but at least 1.
   chart : Form → ℕ → ℕ → ℕ → Sign
 
 abbrev pub leaf_ink : Form → RevId → Bool → Bool → List ℕ
@@ -139,20 +141,21 @@ caption columns.Read = codes "read"
 caption columns.Written = codes "written"
 caption columns.Failed = codes "failed"
 
--- The text with which a row of numbers in a picture begins: `compare`, `database` or `session`.
+-- The text `compare`, `database` or `session`, with which a row of numbers in a picture begins.
 abbrev pub table_text : Table → List ℕ
 table_text tables.Compared = codes "compare"
 table_text tables.Info = codes "database "
 table_text tables.Session = codes "session "
 
--- The length of a part of a total on a scale from 0 to 400, with 400 as the length of the total.
+-- The length that the number `part` has in a bar in which the total `all` has length 400. A `share` is at most 400, and
+-- is 400 if the total `all` is 0.
 abbrev pub share : ℕ → ℕ → ℕ
 share part all = if all == 0 then 400 else (if nat_le 400 (part * 400 / all) then 400 else part * 400 / all)
 
 abbrev pub ratio : ℕ → ℕ → List ℕ
 ratio part all = (decimal part ++ codes " of ") ++ decimal all
 
--- A bar in a picture. The bar is 40 characters long in text, and 400 units wide in SVG.
+-- The bytes of a bar in a picture. A bar is 40 characters long in a text picture, and 400 units wide in an SVG picture.
 abbrev pub bar_ink : Form → ℕ → ℕ → List ℕ
 bar_ink forms.Text part all =
     ((((codes "  [" ++ take (share part all / 10) (codes "########################################"))
@@ -194,7 +197,7 @@ sign_ink (chart form written read most) = chart_ink form written read most
 
 -- ---- pieces
 
--- A piece of a picture: markup, a number, an ancestor, or a sign (such as a leaf or a bar).
+-- A piece of a picture: markup, a number, an ancestor, or an item that the picture must show (`Sign`).
 pub data Piece : Type 0 where
   mark : Markup → Piece
   number : ℕ → Piece
@@ -202,7 +205,7 @@ pub data Piece : Type 0 where
   short : RevId → Piece
   sign : Sign → Piece
 
--- The bytes of a piece of a picture.
+-- The bytes of one piece of a picture, such as markup, a number, an ancestor or a leaf.
 abbrev pub ink_of : Piece → List ℕ
 ink_of (mark m) = markup_text m
 ink_of (number n) = decimal n
@@ -210,7 +213,8 @@ ink_of (whole r) = rev_text r
 ink_of (short r) = short_text r
 ink_of (sign s) = sign_ink s
 
--- The sign of a piece of a picture, if the piece is a sign.
+-- A list with the piece's `Sign` (an item that a picture must show), or the empty list for markup, a number or an
+-- ancestor.
 abbrev pub sign_in : Piece → List Sign
 sign_in (mark m) = []
 sign_in (number n) = []
@@ -218,8 +222,8 @@ sign_in (whole r) = []
 sign_in (short r) = []
 sign_in (sign s) = s ∷ []
 
--- The text `new` is the text `old` followed by the pieces (markup, numbers, ancestors and signs) of a part of a
--- picture. The list `signs` has the signs (such as leaves and bars) among the pieces after `old`, in order.
+-- The text `new` is the text `old`, followed by pieces of a picture such as markup, numbers, ancestors and leaves. The
+-- list `signs` has, in order, the items that a picture must show (`Sign`) among the pieces that `new` adds to `old`.
 pub record Draws (old new : List ℕ) (signs : List Sign) : Type 0 where
   pub pieces : List Piece
   pub ink : new ≡ old ++ flat_map ink_of pieces
@@ -230,8 +234,7 @@ pub record Draws (old new : List ℕ) (signs : List Sign) : Type 0 where
 abbrev pub leaf_sign : Form → Leaf → Sign
 leaf_sign form l = leaf form l.rev l.wins l.live
 
--- A list with the command that resolves the conflict of leaf l of document `id` in database `db`. The list is empty if
--- leaf l is not live or is the document's winner.
+-- A list with the command that would delete leaf l of document `id` in `db`, or the empty list if l is deleted or wins.
 abbrev pub edit_of : List ℕ → List ℕ → Leaf → List Sign
 edit_of db id l = if not l.wins && l.live then edit db id l.rev ∷ [] else []
 
@@ -239,7 +242,7 @@ abbrev pub edits_of : Option (List ℕ) → List ℕ → List Leaf → List Sign
 edits_of None id leaves = []
 edits_of (Some db) id leaves = flat_map (edit_of db id) leaves
 
--- The signs of a document in a picture: its id, its leaves, and, in a text picture, the commands that resolve the
+-- What a picture must show of a document: its id, its leaves, and, in a text picture, the commands that resolve the
 -- document's conflict.
 abbrev pub signs_of : Form → Option (List ℕ) → List ℕ → List Leaf → List Sign
 signs_of forms.Text db id leaves = title forms.Text id ∷ (map (leaf_sign forms.Text) leaves ++ edits_of db id leaves)
@@ -247,25 +250,26 @@ signs_of forms.Svg db id leaves = title forms.Svg id ∷ map (leaf_sign forms.Sv
 
 -- ---- signs of other lines
 
--- The signs that draw a finding of `compare`: a sign for the finding, and a sign for each revision that the finding
--- lists.
+-- What a picture must show of a line of `compare` about a document: the finding with the document's id, and each listed
+-- revision.
 abbrev pub signs_of_found : Form → Finding → List ℕ → List RevId → List Sign
 signs_of_found form finding id revs = found form finding id ∷ map listed revs
 
--- The signs (pieces of a picture) for the numbers of a line, each with a number and the number's column.
+-- What a picture must show of the numbers of a line: each number, after the caption of the number's column.
 abbrev pub counts_of : List Column → List ℕ → List Sign
 counts_of (c ∷ cs) (n ∷ ns) = count c n ∷ counts_of cs ns
 counts_of cs ns = []
 
--- The bar that a picture shows after the numbers of a line, if there is one. For a line of `compare`, the filled part
--- of the bar represents the compared leaves that the target has. For a line of a session, the complete bar represents
--- the documents read, and the filled part represents the documents written. A line of `info` has no bar.
+-- A list with the bar that follows the numbers of `compare` or of a session in a picture, or the empty list for `info`.
+-- For the numbers of `compare`, the filled part of the bar represents the compared leaves that the target has. For the
+-- numbers of a session, the complete bar represents the documents read, and the filled part represents the documents
+-- written.
 abbrev pub bars_of : Form → Table → List ℕ → List Sign
 bars_of form tables.Compared ns = bar form (get_or ns 1 0 - get_or ns 2 0) (get_or ns 1 0) ∷ []
 bars_of form tables.Info ns = []
 bars_of form tables.Session ns = bar form (get_or ns 5 0) (get_or ns 4 0) ∷ []
 
--- The signs that draw a line of numbers: a heading, the numbers, and a bar if the line has one.
+-- What a picture must show of a line of numbers: a heading, the numbers, and a bar unless `info` printed the line.
 abbrev pub signs_of_row : Form → Table → List ℕ → List ℕ → List Sign
 signs_of_row form table name ns = heading form table name ∷ (counts_of (columns_of table) ns ++ bars_of form table ns)
 
@@ -274,12 +278,13 @@ abbrev pub most_from : ℕ → List Entry → ℕ
 most_from most [] = most
 most_from most (e ∷ es) = most_from (max most e.read) es
 
--- The signs that draw a session of a log: the start time, a bar, the numbers of documents, and the session's id.
+-- What a picture must show of a session in a log: the start time, a bar, the numbers of documents, and the session's
+-- id.
 abbrev pub signs_of_session : Form → ℕ → Entry → List Sign
 signs_of_session form most e =
     moment form (string_bytes e.begun) ∷ chart form e.written e.read most ∷ count columns.Read e.read ∷ count columns.Written e.written
     ∷ count columns.Failed e.failed ∷ heading form tables.Session (string_bytes e.session) ∷ []
 
--- The signs of a log in a picture: its replication id, and the signs of each session.
+-- What a picture must show of a replication log: the log's replication id, and then each session of the log.
 abbrev pub signs_of_log : Form → List ℕ → List Entry → List Sign
 signs_of_log form id es = log form id ∷ flat_map (signs_of_session form (most_from 1 es)) es

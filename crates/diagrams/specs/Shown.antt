@@ -26,14 +26,14 @@ shown form cs = flat_map (shown_char form) cs
 abbrev pub is_markup : ℕ → Bool
 is_markup c = c == 38 || c == 60 || c == 62 || c == 34
 
--- In an escaped text, no character is hidden, and markup characters occur only in entities.
+-- A text is escaped if it has no hidden characters (`is_hidden`), and has `&`, `<`, `>` and `"` only as XML entities.
 pub data IsEscaped : List ℕ → Type 0 where
   done : IsEscaped []
   plain : {c : ℕ} {cs : List ℕ} → is_hidden c ≡ false → is_markup c ≡ false → IsEscaped cs → IsEscaped (c ∷ cs)
   named : (c : ℕ) {cs : List ℕ} → is_markup c ≡ true → IsEscaped cs → IsEscaped (entity_of c ++ cs)
 
--- An input text is safe in a picture: no character is hidden, and, in an SVG picture, markup characters occur only in
--- entities.
+-- A text is safe in a picture if it has no hidden characters (`is_hidden`), and, in an SVG picture, markup characters
+-- only as XML entities.
 abbrev pub IsSafe : Form → List ℕ → Type 0
 IsSafe Text cs = IsSeen cs
 IsSafe Svg cs = IsEscaped cs

@@ -5,15 +5,16 @@ use Rattle.output_parser.specs.declared.told.Told.{Told}
 use Rattle.output_parser.specs.declared.told.Told.TheVariants as told
 use Rattle.diagrams.specs.declared.tally.Tally.{Tally}
 
--- The counts before the first line.
+-- The input's line counts before the first line, all of which are 0.
 abbrev pub none_counted : Tally
 none_counted = record { lines = 0; unknown = 0; first = 0 }
 
--- The counts after a line that `couch_replicate` prints.
+-- The input's line counts after one more line that can be output of `couch_replicate`.
 abbrev pub with_line : Tally → Tally
 with_line old = record { lines = counted old.lines 1; unknown = old.unknown; first = old.first }
 
--- The counts after a line that `couch_replicate` does not print. The field `first` has the number of the first such line.
+-- The input's line counts after one more line that cannot be output of `couch_replicate`. The field `first` is the
+-- number (without blank lines) of the first input line that cannot be output of `couch_replicate`.
 abbrev pub with_unknown : Tally → Tally
 with_unknown old = record {
   lines = counted old.lines 1;
@@ -21,7 +22,8 @@ with_unknown old = record {
   first = if old.unknown == 0 then counted old.lines 1 else old.first;
 }
 
--- The counts after a line with the given contents.
+-- The input's line counts after one more line. Only a line with the contents `Unknown` is counted as a line that cannot
+-- be output of `couch_replicate`.
 abbrev pub with_told : Tally → Told → Tally
 with_told old told.Unknown = with_unknown old
 with_told old line = with_line old

@@ -36,17 +36,17 @@ struct Start {
 #[derive(Drop)]
 pub struct Ancestries {
     branches: Vec<Branch>,
-    /// The indexes of all branches except the first. The key of a branch in this map consists of the branch's parent
-    /// and first revision.
+    /// A map from a branch's parent and first revision to the index of the branch, for all branches except the first.
     starts: Option<Box<IndexMap<Start, usize>>>,
 }
 
-/// A path from the newest revision of an ancestry to the ancestry's oldest revision.
+/// The state of a traversal of an ancestry, which begins with the ancestry's newest revision and ends after the oldest
+/// revision.
 #[derive(Clone, Copy)]
 struct Climb {
-    /// The revision that the path has reached, or `None` after the oldest revision.
+    /// The revision that the traversal of an ancestry has reached, or `None` after the oldest revision.
     at: Option<Point>,
-    /// The branch that the path has left last, or `None` if the path has not left a branch.
+    /// The branch that the traversal of an ancestry has left most recently, or `None` in the traversal's first branch.
     left: Option<usize>,
 }
 
@@ -98,8 +98,8 @@ impl Ancestries {
         Ok(at)
     }
 
-    /// Returns the position of the given revision, if a stored ancestry has this revision directly after the given
-    /// position.
+    /// Returns the position of the revision `rev`, if `rev` directly follows the revision at the position `at` in a
+    /// stored ancestry. If `at` is `None`, the call looks for a stored ancestry whose oldest revision is `rev`.
     fn after(&self, at: Option<Point>, rev: &Rev) -> Option<Point> {
         let (branch, count) = match at {
             Some(point) => (point.branch, point.count),
@@ -116,8 +116,8 @@ impl Ancestries {
         self.start_at(at, rev)
     }
 
-    /// Finds in `starts` the branch whose parent is `from` and whose first revision is `rev`. Returns the position of
-    /// `rev` in this branch, or `None` if `starts` has no such branch.
+    /// Returns the position of the revision `rev`, if `starts` has a branch with the parent `from` and the first
+    /// revision `rev`.
     fn start_at(&self, from: Option<Point>, rev: &Rev) -> Option<Point> {
         let starts = self.starts.as_ref()?;
         let branch = starts.get(&Start { from, rev: *rev })?;
@@ -188,8 +188,8 @@ impl Ancestries {
         }
     }
 
-    /// Returns the number of revisions that two ancestries share, beginning with the oldest revision. The revision
-    /// `one` or the revision `other` must be in the ancestry that was added first.
+    /// Returns the number of revisions that two ancestries share, beginning with the oldest revision. The ancestry that
+    /// was passed to the first call of `Ancestries::add` must contain the revision `one` or the revision `other`.
     pub fn shared(&self, one: Option<Point>, other: Option<Point>) -> usize {
         let (one, other) = self.fork(one, other);
         one.count().min(other.count())
@@ -218,10 +218,9 @@ impl Ancestries {
         self.next(one, count).cmp(&self.next(other, count))
     }
 
-    /// Follows two ancestries from newer to older revisions, until both paths are in the same branch (a list of
-    /// consecutive revisions) or both ancestries have ended. Each step moves one of the two paths out of its branch,
-    /// namely the path whose branch was added later. A branch is always added after the branch from which it branches
-    /// off.
+    /// Follows two ancestries from newer to older revisions, until both are in the same branch (a list of consecutive
+    /// revisions) or both have ended. Of two traversals in different branches, the call continues the traversal in the
+    /// branch that was stored later. A branch is always stored after the branch from which it branches off.
     fn fork(&self, one: Option<Point>, other: Option<Point>) -> (Climb, Climb) {
         let mut one = Climb {
             at: one,
@@ -244,7 +243,8 @@ impl Ancestries {
         (one, other)
     }
 
-    /// Moves a path from its branch to the parent of the branch's first revision, and returns the moved path.
+    /// Skips the older revisions of the branch that the traversal `climb` has reached, and returns the traversal at the
+    /// parent of the branch's first revision.
     fn climbed(&self, climb: Climb) -> Climb {
         match climb.at {
             Some(point) => Climb {
@@ -255,8 +255,8 @@ impl Ancestries {
         }
     }
 
-    /// Returns the revision with which the ancestry of the path `climb` continues after the first `count` revisions of
-    /// the branch that the path has reached.
+    /// Returns the next newer revision in the ancestry of the traversal `climb`, after the first `count` revisions of
+    /// the branch that `climb` has reached.
     fn next(&self, climb: Climb, count: usize) -> Option<&Rev> {
         if climb.count() > count {
             return self.rev_at(climb.branch(), count);

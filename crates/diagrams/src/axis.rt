@@ -1,5 +1,6 @@
-//! Computes the columns of a diagram of a revision tree. A generation at which a row begins, ends or forks has a column
-//! of its own. Consecutive generations that have no column of their own share one column.
+//! Computes the columns of a diagram of a revision tree. Each leaf of the revision tree has a row in the diagram. Each
+//! generation at which a leaf's row begins, ends or forks has its own column in the diagram. Other generations of a
+//! revision tree share one column of the diagram if they are consecutive.
 
 use crate::ancestries::Ancestries;
 use crate::document::Leaf;
@@ -31,8 +32,8 @@ pub fn axis_of(
     Ok(cells)
 }
 
-/// Returns the generations at which a row begins, ends or forks, in rising order. Each generation in the list has a
-/// separate column.
+/// Returns, in rising order, the generations at which a leaf's row of the diagram begins, ends or forks. Each returned
+/// generation gets a separate column.
 fn kept_of(alloc: Global, leaves: &[Leaf], rows: &[Row]) -> Result<Vec<u32>, AllocError> {
     let mut kept = Vec::new(alloc);
     for (leaf, row) in leaves.iter().zip(rows) {
@@ -93,12 +94,13 @@ fn width_of(ancestries: &Ancestries, leaves: &[Leaf], low: u32, high: u32) -> us
     width
 }
 
-/// Returns the number of generations in a column.
+/// Returns the number of generations from `low` to `high`, which share one column of a diagram.
 pub fn folded(low: u32, high: u32) -> u64 {
     u64::from(high).saturating_sub(u64::from(low)) + 1
 }
 
-/// Returns the number of characters of a column's text, if the column represents `count` generations.
+/// Returns the length of the text with which a diagram's column represents `count` generations, for example `12 more`
+/// for 12 generations.
 pub fn folded_len(count: u64) -> usize {
     digits(count) + 5
 }

@@ -10,8 +10,8 @@ use std::cmp::Ordering;
 /// A leaf of a document.
 #[derive(Debug, Drop)]
 pub struct Leaf {
-    /// The sort key of the leaf. The sort key of the winner is 0. The sort key of every other leaf is a constant minus
-    /// the number of revisions that the leaf shares with the winner.
+    /// The sort key of the leaf. The sort key of the winner is 0. A losing leaf's sort key is `usize::MAX` minus the
+    /// number of revisions that the leaf's ancestry shares with the winner's ancestry.
     pub apart: usize,
     /// The leaf's parent, if the parent is known. In the leaf's ancestry, each revision's generation is one above the
     /// generation of its parent.

@@ -58,8 +58,8 @@ impl Serve for Drawer<'_> {
 }
 
 impl Drawer<'_> {
-    /// Reads a line of the output, counts the line, and draws the document, comparison, numbers or log that the line
-    /// completes. If an allocation fails, the call drops the document whose lines are being read.
+    /// Reads and counts a line of a script's output, and draws the document, comparison, row of numbers or log that the
+    /// line completes. If an allocation fails, the call drops the document whose lines are being read.
     fn take_in(&mut self, line: &[u8], answer: &mut Vec<u8>) -> Result<(), AllocError>
         requires { answer.old.items ≡ [] }
         ensures ok { OnOk result (Takes (sketch_of self.old.form self.old.db self.old.begun self.old.tally) line.now
@@ -180,18 +180,19 @@ impl Drawer<'_> {
     }
 }
 
-/// Reads the output of a script, and draws the output as text or as one SVG picture (docs/PROFILE.md, "Pictures"). The
-/// picture shows the documents of `show` and `conflicts`, and the lines of `compare`. The picture also shows the
-/// numbers in the output of `info` and `replicate`, and replication logs. If the caller names the database, a text
-/// picture includes the commands that resolve conflicts.
+/// Reads the output of a script, and draws the output as text or as one SVG picture (docs/PROFILE.md, "Pictures"). A
+/// picture of a script's output shows the documents that `show` and `conflicts` print, and the lines that `compare`
+/// prints. A picture of a script's output also shows the numbers that `info` and `replicate` print, and the replication
+/// logs that `log` prints. If the caller names the database, a text picture includes the commands that resolve
+/// conflicts.
 ///
-/// Returns whether no allocation for a line failed, and the counts of lines.
+/// Returns the counts of the input's lines, and whether memory was sufficient for every line.
 ///
 /// # Errors
 ///
-/// - `Read`: the reader failed in this call, or 4,294,967,295 reads were made.
-/// - `Write`: the writer failed in this call.
-/// - `Memory`: an allocation failed between lines, or for the end of the picture.
+/// - `Read`: the reader failed during the call of `draw_answers`, or the call made 4,294,967,295 reads.
+/// - `Write`: the writer failed during the call of `draw_answers`.
+/// - `Memory`: an allocation failed while no line was being drawn, for example for the end of the picture.
 ///
 /// If the call returns an error, the writer got a prefix of the picture. Unless a write failed, the written prefix of
 /// the picture ends after the drawing for a line. The contract also allows the error `Cut`, after which the written
@@ -300,7 +301,7 @@ fn tail_of(alloc: Global, form: Form, extent: Extent) -> Result<Vec<u8>, AllocEr
     Ok(tail)
 }
 
-/// Draws the width and the height of a picture.
+/// Appends the width and the height of an SVG picture to the picture's markup.
 fn draw_size(out: &mut Vec<u8>, extent: Extent) -> Result<(), AllocError>
     ensures { OnOk result (Draws out.old.items out.new.items []) }
 {

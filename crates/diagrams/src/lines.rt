@@ -1,4 +1,5 @@
-//! Draws lines of `compare` and lines of numbers.
+//! Adds two kinds of output lines to a picture: findings of `compare`, and rows of numbers that `compare`, `info` or
+//! `replicate` prints.
 
 ghost use Rattle.std.specs.Prelude.{◌≡◌, ◌≤◌, ◌++◌, ◌∷◌, [], OnOk, get_or, map, string_bytes};
 ghost use Rattle.diagrams.specs.declared.form.Form.TheVariants.{Svg, Text};
@@ -66,8 +67,8 @@ fn draw_counts(out: &mut Vec<u8>, columns: &[Column], numbers: &[u64]) -> Result
     Ok(())
 }
 
-/// Draws the progress bar of a picture's line that shows the totals of `compare` or the numbers of a session. A line
-/// that shows the numbers of `info` has no bar.
+/// Appends a bar to a picture, after the totals of `compare` or the numbers of a session. The numbers that `info`
+/// prints are drawn without a bar.
 fn draw_bar(out: &mut Vec<u8>, form: Form, table: Table, numbers: &[u64]) -> Result<(), AllocError>
     ensures { OnOk result (Draws out.old.items out.new.items (bars_of form table numbers.now)) }
 {
@@ -129,7 +130,7 @@ pub fn begin(out: &mut Vec<u8>, form: Form, height: u64, behind: Markup) -> Resu
     mark(out, behind)
 }
 
-/// Draws the markup between the name and the numbers of a line.
+/// Appends the markup between the heading and the numbers in a picture's row for `compare`, `info` or a session.
 fn between(out: &mut Vec<u8>, form: Form) -> Result<(), AllocError>
     ensures { OnOk result (Draws out.old.items out.new.items []) }
 {
@@ -139,7 +140,7 @@ fn between(out: &mut Vec<u8>, form: Form) -> Result<(), AllocError>
     }
 }
 
-/// Draws the markup after the numbers of a line.
+/// Appends the markup after the last number in a picture's row for `compare`, `info` or a session.
 fn behind_numbers(out: &mut Vec<u8>, form: Form) -> Result<(), AllocError>
     ensures { OnOk result (Draws out.old.items out.new.items []) }
 {
@@ -159,7 +160,7 @@ fn end(out: &mut Vec<u8>, form: Form) -> Result<(), AllocError>
     }
 }
 
-/// Draws the end of a picture's line about a finding of `compare`, a log, or a session of a log.
+/// Appends the end of a picture's line that shows a finding of `compare`, the id of a replication log, or a session.
 pub fn end_line(out: &mut Vec<u8>, form: Form) -> Result<(), AllocError>
     ensures { OnOk result (Draws out.old.items out.new.items []) }
 {
@@ -188,8 +189,8 @@ fn put_listed(out: &mut Vec<u8>, rev: &Rev) -> Result<(), AllocError>
     push_short(out, rev)
 }
 
-/// Draws the heading of a line of numbers: the kind of the line (`table`), and then the text `name`, for example the
-/// name of a database.
+/// Appends a heading to a picture: the name of the table `table`, such as `database`, and then the text `name`, such as
+/// the database's name.
 pub fn put_heading(
     out: &mut Vec<u8>,
     form: Form,

@@ -11,19 +11,21 @@ pub enum Markup {
     LineEnd,
     /// The indentation of a row of text.
     Indent,
-    /// The blank space of a text picture at a position without an edge.
+    /// Three blanks, which a text picture has between two columns instead of an edge.
     Blank,
-    /// In a text picture, a vertical edge that leads from the row above to the row below without a branch.
+    /// The character `│` of a text picture, which draws an edge from the row above to the row below.
     Bar,
-    /// In a text picture, a horizontal edge to the next revision.
+    /// The character `─` of a text picture, which draws an edge to the next revision of the same row.
     Step,
-    /// In a text picture, a horizontal edge to the next revision, from which a vertical edge leads to the row below.
+    /// The character `┬` of a text picture, which draws edges to the next revision of the same row and to the row
+    /// below.
     Fork,
-    /// In a text picture, an edge that leads from the row above to a revision in this row, and also to the row below.
+    /// The character `├` of a text picture, which draws edges from the row above to the next revision and to the row
+    /// below.
     Branch,
-    /// In a text picture, an edge that leads from the row above to a revision in this row, and not to the row below.
+    /// The character `└` of a text picture, which draws an edge from the row above to the next revision.
     Corner,
-    /// The text that follows the number of hidden revisions in a shared column.
+    /// The end of a text such as `12 more`, with which one column of a picture represents 12 consecutive generations.
     More,
     /// The start of an SVG picture.
     Head,

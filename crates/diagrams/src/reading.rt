@@ -9,8 +9,8 @@ use output_parser::{Found, Log, Row, Told};
 use rev_core::Rev;
 use std::alloc::{AllocError, Global};
 
-/// A complete item of a script's output, which is drawn at once: a document, a line of `compare`, a line of numbers, or
-/// a log.
+/// A complete item of a script's output, which can be drawn: a document, a line of `compare`, a row of numbers, or a
+/// log.
 #[derive(Drop)]
 pub enum Whole {
     /// A document with all its leaves.
@@ -51,8 +51,8 @@ pub fn next(
 }
 
 /// Adds the leaf of a `leaf` line to the document. Returns the document as incomplete if further `leaf` lines must
-/// follow, and otherwise as a complete item. If `revs` is empty, the call frees the document, and returns neither an
-/// incomplete document nor a complete item.
+/// follow, and otherwise as a complete item. If the `leaf` line has no revisions, the call drops the document, and
+/// returns `(None, None)`.
 fn read_leaf(
     alloc: Global,
     mut document: Document,

@@ -1,4 +1,5 @@
-//! Computes the layout of leaves. Each leaf has a row, and each row except the first may branch off an earlier row.
+//! Computes the rows of a document's drawing. Each leaf of the document has one row, which shows the leaf's ancestry.
+//! In a drawing, each row except the first may branch off an earlier row.
 
 ghost use Rattle.std.specs.Prelude.{◌≡◌, IfOk, length, vec_len};
 
@@ -9,34 +10,36 @@ use std::alloc::{AllocError, Global};
 /// The row of a leaf in a drawing.
 #[derive(Drop)]
 pub struct Row {
-    /// The generation of the revision from which the row branches off, or 0 if the row does not branch off.
+    /// The generation at which the leaf's row branches off an earlier row of the drawing, or 0 if the leaf's row does
+    /// not branch off.
     pub hang: u32,
-    /// The index of the row that has the revision from which this row branches off.
+    /// The index of the drawing's row that shows the revision from which the leaf's row branches off.
     pub parent: usize,
     /// The generation of the leaf's oldest known ancestor.
     pub first: u32,
-    /// The generations, in rising order, at which vertical edges continue below the row. The vertical edges below a row
-    /// start in this row or in an earlier row, and lead to later rows.
+    /// The generations, in rising order, at which a vertical edge of the drawing leads from the leaf's row to the next
+    /// row. The vertical edges below a row start in this row or in an earlier row, and lead to later rows.
     pub below: Vec<u32>,
 }
 
 /// A row from which the row of a later leaf may branch off.
 #[derive(Drop)]
 struct Branch {
-    /// The generation of the revision from which the row branches off.
+    /// The generation at which a leaf's row branches off an earlier row of the drawing, or 0 if the leaf's row does not
+    /// branch off.
     hang: u32,
-    /// The index of the row.
+    /// The index of a leaf's row in the drawing.
     row: usize,
 }
 
 impl Row {
-    /// Whether a branch at a given generation continues below the row.
+    /// Whether a vertical edge of the drawing leads from the leaf's row to the next row at the generation `generation`.
     pub fn is_open(&self, generation: u32) -> bool {
         self.below.contains(&generation)
     }
 }
 
-/// Computes the rows of sorted leaves.
+/// Computes one row of a document's drawing for each leaf. The leaves must be sorted by `Document::sort`.
 pub fn rows_of(
     alloc: Global,
     ancestries: &Ancestries,
@@ -65,8 +68,9 @@ pub fn rows_of(
     Ok(rows)
 }
 
-/// Returns the last row in which a revision of a given generation is drawn. The call removes the rows after the
-/// returned row from `branches`, because later leaves never branch off a removed row.
+/// Returns the index of the last row of a drawing that shows a revision of generation `hang`, or 0 if `hang` is 0. The
+/// call removes the rows after the returned index from `branches`, because rows of later leaves never branch off a
+/// removed row.
 fn parent_of(branches: &mut Vec<Branch>, hang: u32) -> usize {
     for _ in 0..branches.len() {
         match branches.last() {
@@ -78,7 +82,8 @@ fn parent_of(branches: &mut Vec<Branch>, hang: u32) -> usize {
     0
 }
 
-/// Computes, for each row, the generations at which vertical edges continue below the row.
+/// Computes the field `below` of each row: the generations at which a vertical edge of the drawing leads from the row
+/// to the next row.
 fn open_below(alloc: Global, rows: &mut [Row]) -> Result<(), AllocError> {
     let mut open: Vec<u32> = Vec::new(alloc);
     for i in (0..rows.len()).rev() {
@@ -88,10 +93,8 @@ fn open_below(alloc: Global, rows: &mut [Row]) -> Result<(), AllocError> {
     Ok(())
 }
 
-/// Changes the list `open` from the generations of a row to the generations of the previous row. Before the call,
-/// `open` has the generations at which vertical edges continue below the row. After the call, `open` has the
-/// generations at which vertical edges continue below the previous row. The row branches off at the generation `hang`,
-/// or does not branch off if `hang` is 0.
+/// Changes the list `open` from the value of `Row::below` for row i of a drawing to the value for row i - 1. The
+/// argument `hang` is the generation at which row i branches off an earlier row, or 0 if row i does not branch off.
 fn close(open: &mut Vec<u32>, hang: u32) -> Result<(), AllocError> {
     open.retain(|generation| *generation < hang);
     if hang > 0 {

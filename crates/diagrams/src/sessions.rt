@@ -113,7 +113,7 @@ fn end_log(out: &mut Vec<u8>, form: Form) -> Result<(), AllocError>
 
 // ---- contents
 
-/// Draws the id of a log.
+/// Appends the id of a replication log to a picture.
 fn put_log(out: &mut Vec<u8>, form: Form, id: &str) -> Result<(), AllocError>
     ensures { OnOk result (Draws out.old.items out.new.items (log form id.now ∷ [])) }
 {
@@ -121,7 +121,7 @@ fn put_log(out: &mut Vec<u8>, form: Form, id: &str) -> Result<(), AllocError>
     put_text(out, form, id)
 }
 
-/// Draws the start time of a session.
+/// Appends the start time of a session to a picture.
 fn put_moment(out: &mut Vec<u8>, form: Form, begun: &str) -> Result<(), AllocError>
     ensures { OnOk result (Draws out.old.items out.new.items (moment form begun.now ∷ [])) }
 {

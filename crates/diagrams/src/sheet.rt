@@ -75,7 +75,7 @@ pub fn leaf_row(out: &mut Vec<u8>, rev: &Rev, wins: bool, live: bool) -> Result<
     out.extend_from_slice(label_text(wins, live).as_bytes())
 }
 
-/// Draws the part of a leaf's SVG markup that follows the leaf's position.
+/// Appends the SVG markup of a leaf. The caller has already appended the markup for the leaf's coordinates.
 pub fn leaf_node(out: &mut Vec<u8>, rev: &Rev, wins: bool, live: bool) -> Result<(), AllocError>
     ensures { OnOk result (Draws out.old.items out.new.items (leaf Svg rev.now wins live ∷ [])) }
 {
@@ -109,7 +109,7 @@ pub fn whole_rev(out: &mut Vec<u8>, rev: &Rev) -> Result<(), AllocError>
 /// The number of characters of a short signature.
 const SHORT: usize = 6;
 
-/// Draws the short id of a revision.
+/// Appends a revision's short id (the generation and at most six characters of the signature) to a picture.
 pub fn short_rev(out: &mut Vec<u8>, rev: &Rev) -> Result<(), AllocError>
     ensures text { OnOk result (out.new.items ≡ out.old.items ++ short_text rev.now) }
     ensures draws { OnOk result (Draws out.old.items out.new.items []) }

@@ -78,7 +78,7 @@ pub fn draw_document(
     })
 }
 
-/// Draws the position and the id of a document.
+/// Appends the start of a document's SVG markup, which has the document's vertical position and the document id.
 fn draw_head(out: &mut Vec<u8>, height: u64, document: &Document) -> Result<(), AllocError>
     ensures { OnOk result (Draws out.old.items out.new.items (title Svg (string_bytes document.now.id) ∷ [])) }
 {
@@ -131,7 +131,7 @@ fn column_of(cells: &[Cell], leaf: &Leaf) -> usize {
     cells.len()
 }
 
-/// Draws the columns of a row before the leaf's column, and the edge to the leaf.
+/// Appends the SVG markup of a leaf's row, from the row's first column to the edge that ends at the leaf.
 fn draw_cells(
     out: &mut Vec<u8>,
     cells: &[Cell],
@@ -148,8 +148,9 @@ fn draw_cells(
     Ok(())
 }
 
-/// Draws a row's edge to a column. If the column is before the leaf's column, the call also draws the column's
-/// contents. If the column is before the row's start or after the leaf's column, the call draws nothing.
+/// Draws one column of a leaf's row in an SVG picture: the edge from the left, and an ancestor or the number of hidden
+/// generations. In the leaf's own column, the call draws only the edge to the leaf. If a column is left of the row's
+/// start or right of the leaf, the call draws nothing.
 fn draw_column(
     out: &mut Vec<u8>,
     cell: &Cell,
@@ -171,8 +172,9 @@ fn draw_column(
     Ok(())
 }
 
-/// Draws the edge to the column whose first generation is given. The edge starts in the previous column, either in the
-/// same row or in the row from which the row branches off.
+/// Draws the edge from the previous column to the column whose first generation is `low`, in the row at index `place`.
+/// If this row branches off an earlier row at the previous column's generation, the edge starts in the earlier row.
+/// Draws nothing if the column is the first column, or the start of a row that does not branch off.
 fn draw_edge(
     out: &mut Vec<u8>,
     low: u32,
@@ -239,7 +241,7 @@ fn draw_cell(
     }
 }
 
-/// Draws the number of revisions that a shared column hides.
+/// Draws the number of generations that one column of an SVG picture represents, for example `12 more`.
 fn draw_fold(out: &mut Vec<u8>, count: u64) -> Result<(), AllocError>
     ensures { OnOk result (Draws out.old.items out.new.items []) }
 {
@@ -249,7 +251,7 @@ fn draw_fold(out: &mut Vec<u8>, count: u64) -> Result<(), AllocError>
     mark(out, Markup::NodeEnd)
 }
 
-/// Draws the part of an ancestor's SVG markup that follows the ancestor's position.
+/// Appends the SVG markup of an ancestor. The caller has already appended the markup for the ancestor's coordinates.
 fn draw_ancestor(out: &mut Vec<u8>, rev: &Rev) -> Result<(), AllocError>
     ensures { OnOk result (Draws out.old.items out.new.items []) }
 {

@@ -7,11 +7,12 @@ use output_parser::Told;
 /// The counts of lines. Blank lines are not counted, and each count is at most 2^64 - 1.
 #[derive(Clone, Copy, Debug, PartialEq, Eq)]
 pub struct Tally {
-    /// The number of lines.
+    /// The number of input lines, without blank lines.
     pub lines: u64,
-    /// The number of lines that `couch_replicate` does not print.
+    /// The number of input lines that cannot be output of `couch_replicate`, for example lines of another program.
     pub unknown: u64,
-    /// The number of the first line that `couch_replicate` does not print, or 0 if there is no such line.
+    /// The number (without blank lines) of the first input line that cannot be output of `couch_replicate`, or 0 if all
+    /// input lines can be output.
     pub first: u64,
 }
 
@@ -25,7 +26,7 @@ pub struct Outcome {
 }
 
 impl Tally {
-    /// Returns the counts after a line that `couch_replicate` prints.
+    /// Returns the input's line counts after one more line that can be output of `couch_replicate`.
     pub fn with_line(self) -> Tally
         ensures { result ≡ with_line self }
     {
@@ -36,7 +37,7 @@ impl Tally {
         }
     }
 
-    /// Returns the counts after a line with the given contents.
+    /// Returns the input's line counts after one more line with the contents `told`.
     pub fn with_told(self, told: &Told) -> Tally
         ensures { result ≡ with_told self told.now }
     {
@@ -46,7 +47,7 @@ impl Tally {
         }
     }
 
-    /// Returns the counts after a line that `couch_replicate` does not print.
+    /// Returns the input's line counts after one more line that cannot be output of `couch_replicate`.
     fn with_unknown(self) -> Tally
         ensures { result ≡ with_unknown self }
     {

@@ -94,7 +94,7 @@ fn draw_row(
     draw_leaf(out, leaf)
 }
 
-/// Draws the columns before the leaf's column, and the edge to the leaf.
+/// Appends the text of a leaf's row, from the row's first column to the edge that ends at the leaf.
 fn draw_cells(
     out: &mut Vec<u8>,
     cells: &[Cell],
@@ -110,8 +110,9 @@ fn draw_cells(
     Ok(())
 }
 
-/// Draws a row's edge to a column. If the column is before the leaf's column, the call also draws the column's
-/// contents. If the column is after the leaf's column, the call draws nothing.
+/// Draws one column of a leaf's row in a text picture: an edge or blanks, and then an ancestor, a number of generations
+/// or blanks. In the leaf's own column, the call draws only the edge to the leaf. If a column is right of the leaf, the
+/// call draws nothing.
 fn draw_column(
     out: &mut Vec<u8>,
     cell: &Cell,
@@ -132,7 +133,8 @@ fn draw_column(
     Ok(())
 }
 
-/// Draws the edge to a column, unless the column is the first column.
+/// Appends the edge (or blanks) between a column of a leaf's row and the column on its left, unless the column is the
+/// first.
 fn draw_edge(
     out: &mut Vec<u8>,
     cell: &Cell,
@@ -148,7 +150,8 @@ fn draw_edge(
     mark(out, edge_of(leaf, row, cell.low))
 }
 
-/// Returns the markup that draws a row's edge from the previous column to the column whose first generation is `low`.
+/// Returns the characters that a leaf's row has to the left of the column of generation `low`: an edge, a branch or
+/// blanks.
 fn edge_of(leaf: &Leaf, row: &Row, low: u32) -> Markup {
     let before = low.saturating_sub(1);
     let open = row.is_open(before);
@@ -183,7 +186,7 @@ fn draw_cell(
     }
 }
 
-/// Draws the number of revisions that a shared column hides.
+/// Draws the number of generations that one column of a text picture represents, for example `12 more`.
 fn draw_fold(out: &mut Vec<u8>, count: u64, width: usize) -> Result<(), AllocError>
     ensures { OnOk result (Draws out.old.items out.new.items []) }
 {
@@ -207,7 +210,7 @@ fn draw_leaf(out: &mut Vec<u8>, leaf: &Leaf) -> Result<(), AllocError>
     leaf_row(out, &leaf.rev, leaf.wins, leaf.live)
 }
 
-/// Draws the command that resolves a leaf's conflict, if the leaf is live and not the winner.
+/// Appends the script command that would delete a leaf, if the leaf is live and not the winner.
 fn draw_edit(out: &mut Vec<u8>, db: &str, id: &str, leaf: &Leaf) -> Result<(), AllocError>
     ensures { OnOk result (Draws out.old.items out.new.items (edit_of db.now id.now leaf.now)) }
 {

@@ -1,4 +1,4 @@
-//! Randomized tests of databases, peers, worlds, networks, revision trees and fronts.
+//! Randomized tests of databases, peers, messages between peers, networks, revision trees and fronts.
 #![tactic(auto)]
 
 #[cfg(test)]

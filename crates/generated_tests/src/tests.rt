@@ -1,5 +1,5 @@
-//! Randomized tests of databases, peers, worlds, networks, revision trees and fronts. Each test compares the results of
-//! calls with the results of an independent reference, which was written from the definitions.
+//! Randomized tests of databases, peers, messages between peers, networks, revision trees and fronts. Each test
+//! compares the results of calls with the results of an independent reference, which was written from the definitions.
 
 // Assertions for all test modules.
 mod checks;
@@ -38,6 +38,6 @@ mod nets;
 // Functions that compare a peer with a plain model of the peer.
 mod sides;
 
-// Tests that compare worlds with a plain model of worlds.
+// Tests that compare two peers and the messages between them (`World`) with a simple model (`PlainWorld`).
 mod plain_worlds;
 mod worlds;

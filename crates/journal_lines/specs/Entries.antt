@@ -6,8 +6,9 @@ use Rattle.journal_lines.specs.Leafs.{HeadView, head_view, line_head}
 use Rattle.journal_lines.specs.declared.entry.Entry.{Entry}
 use Rattle.journal_lines.specs.declared.entry.Entry.TheVariants as entries
 
--- The content of a journal line: the leaves (`state`) or requested leaves (`lacks`) of a document, or the head of a
--- document (`leaf`). The content of any other line is `wrong`.
+-- The content of a journal line: the leaves of a document (`state`), its requested leaves (`lacks`), or the document's
+-- id, ancestry and deleted flag (`leaf`). The content of a journal line that neither lists leaves nor has a document is
+-- `wrong`.
 pub data EntryView : Type 0 where
   state : LeavesView → EntryView
   lacks : LeavesView → EntryView
@@ -41,6 +42,6 @@ state_or_other line (Some rest) = state_or_wrong (leaves_in rest)
 state_or_other line None = lacks_or_leaf line (after (codes "lacks ") line)
 
 -- The content of a journal line. A line that begins with `state ` or `lacks ` lists leaves or is `wrong`. A line that
--- begins with neither of these two words has a document or is `wrong`.
+-- does not begin with `state ` or `lacks ` has a document or is `wrong`.
 abbrev pub entry_in : List ℕ → EntryView
 entry_in line = state_or_other line (after (codes "state ") line)

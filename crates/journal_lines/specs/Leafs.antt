@@ -1,4 +1,5 @@
--- Defines the heads of documents.
+-- Defines the data that a journal task reads from a document: the id, the known ancestry, and whether the document is
+-- deleted.
 use Rattle.std.specs.Prelude.{ℕ, Bool, false, ◌||◌, ◌-◌, List, [], ◌∷◌, ◌++◌, Option, None, Some, option_map, option_and_then, unwrap_or, bytes_eq, codes, decimal, String, string_bytes, Vec}
 use Rattle.std.specs.Global.{Global}
 use Rattle.json.specs.Json.{Json, document}
@@ -20,8 +21,8 @@ leaf_view leaf = (string_bytes leaf.rev, leaf.start, texts_of leaf.names.items)
 abbrev pub rev_at : ℕ → List ℕ → List ℕ
 rev_at generation name = decimal generation ++ codes "-" ++ name
 
--- Whether a revision id has one of the given signatures and the signature's generation. The first signature has the
--- generation `start`, and each later signature has the generation below the previous signature's generation.
+-- Whether the revision id `rev` is in the ancestry with the newest generation `start` and the listed signatures, newest
+-- first. In the list, each signature's generation is one below the previous signature's generation.
 abbrev pub knows_at : List ℕ → ℕ → List (List ℕ) → Bool
 knows_at rev start [] = false
 knows_at rev start (name ∷ names) = bytes_eq rev (rev_at start name) || knows_at rev (start - 1) names
@@ -58,12 +59,12 @@ is_deleted doc = unwrap_or (option_and_then as_bool (get (codes "_deleted") doc)
 abbrev pub head_by : Bool → List ℕ × (List ℕ × (ℕ × List (List ℕ))) → HeadView
 head_by deleted p = (p.0, (p.1.0, p.1.1.0, p.1.1.1), deleted)
 
--- The head of a document, from its members `_id`, `_rev`, `_revisions` and `_deleted`.
+-- The id, ancestry and deleted flag of a document, from its members `_id`, `_rev`, `_revisions` and `_deleted`.
 abbrev pub head_in : Json → Option HeadView
 head_in doc = option_map (head_by (is_deleted doc))
     (both (text_at (codes "_id") doc) (both (text_at (codes "_rev") doc) (ancestry_by (get (codes "_revisions") doc))))
 
--- The head of the document in a journal line. The line must be a JSON object, and the document is the object's member
--- `doc`.
+-- The id, ancestry and deleted flag of the document in a journal line. The line must be a JSON object, and the document
+-- is the object's member `doc`.
 abbrev pub line_head : List ℕ → Option HeadView
 line_head line = option_and_then (λ j. option_and_then head_in (get (codes "doc") j)) (option_and_then document (text_in line))

@@ -111,7 +111,7 @@ fn is_deleted(doc: &Value<'_>) -> bool
     }
 }
 
-/// Returns the head of a document, or `None` if the value is not a document.
+/// Returns the id, the ancestry and the deleted flag of a document, or `None` if the value `doc` is not a document.
 fn head_of(alloc: Global, doc: &Value<'_>) -> Result<Option<Leaf>, AllocError>
     ensures { IfOk result (λ o. option_map head_view o ≡ head_in (value_view doc.now)) }
 {
@@ -135,7 +135,8 @@ fn head_of(alloc: Global, doc: &Value<'_>) -> Result<Option<Leaf>, AllocError>
     }))
 }
 
-/// Returns the head of the document in the member `doc`, if a JSON value has such a document.
+/// Returns the id, the ancestry and the deleted flag of the document in the member `doc` of a JSON value, if there is
+/// one.
 fn head_at(alloc: Global, value: &Value<'_>) -> Result<Option<Leaf>, AllocError>
     ensures { IfOk result (λ o. option_map head_view o ≡ option_and_then head_in (get (codes "doc") (value_view value.now))) }
 {
@@ -145,7 +146,7 @@ fn head_at(alloc: Global, value: &Value<'_>) -> Result<Option<Leaf>, AllocError>
     }
 }
 
-/// Returns the head of the document in a line, if the line is a JSON object with a document in the member `doc`.
+/// Returns the id, ancestry and deleted flag of the document in the member `doc` of a journal line, if there is one.
 pub(crate) fn leaf_of(
     alloc: Global,
     scratch: &mut Scratch,

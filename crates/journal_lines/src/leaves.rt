@@ -121,8 +121,8 @@ fn seq_of(bytes: &[u8]) -> Option<&str>
     }
 }
 
-/// Returns the leaves that a line lists after its kind. A valid line has a sequence, a blank and a JSON list after its
-/// kind.
+/// Returns the leaves that a journal line lists, given the rest of the line after `state ` or `lacks `. In a valid
+/// line, a sequence, a blank and a JSON list follow `state ` or `lacks `.
 pub(crate) fn leaves_of(
     alloc: Global,
     scratch: &mut Scratch,

@@ -41,7 +41,7 @@ pub record Span : Type 0 where
   pub hi : ℕ
   pub done : Bool
 
--- The given adjacent windows, each with both bounds. The first window begins at `lo`.
+-- A list of adjacent windows, each with its lower and upper bound. The first window of the list begins at `lo`.
 abbrev pub spans_from : ℕ → List FrontWindow → List Span
 spans_from lo [] = []
 spans_from lo (w ∷ ws) = record { lo = lo; hi = w.hi; done = w.done } ∷ spans_from w.hi ws
@@ -85,13 +85,13 @@ abbrev pub above_low_water : List FrontWindow → List FrontWindow
 above_low_water [] = []
 above_low_water (w ∷ ws) = if w.done then above_low_water ws else w ∷ ws
 
--- The number of maximal runs of adjacent done windows whose first window is in the given list of windows. The Boolean
--- `before` says whether the window before the list is done.
+-- The number of maximal groups of adjacent done windows that begin in a list of windows. If `before` is true, a done
+-- window directly precedes the list, and done windows at the start of the list continue its group.
 abbrev pub run_count : Bool → List FrontWindow → ℕ
 run_count before [] = 0
 run_count before (w ∷ ws) = (if w.done then (if before then 0 else 1) else 0) + run_count w.done ws
 
--- The number of maximal runs of adjacent done windows above the low water.
+-- The number of maximal groups of adjacent done windows above the low water.
 abbrev pub range_count : FrontValue → ℕ
 range_count f = run_count false (above_low_water f.windows)
 

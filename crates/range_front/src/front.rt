@@ -22,8 +22,8 @@ pub struct Front {
     ranges: Vec<DoneRange>,
 }
 
-// `Drop` is implemented by hand, because derived code would be proved again in each crate that owns a `Front`
-// (docs/DECISIONS.md, "Letting values go").
+// `Drop` is implemented by hand, because each crate that owns a `Front` would have to prove the code of
+// `#[derive(Drop)]` again (docs/DECISIONS.md, "Letting values go").
 impl Drop for Front {
     fn drop(self) {
         let Front {
@@ -167,7 +167,7 @@ impl Front {
         self.mark
     }
 
-    /// Returns the number of maximal runs of adjacent done windows above the low water.
+    /// Returns the number of maximal groups of adjacent done windows above the low water.
     pub fn range_count(&self) -> usize
         ensures value { result ≡ range_count self.now.front }
         ensures front { IsFront self.now.front }

@@ -1,7 +1,7 @@
 //! A front has the windows of a feed, and the sequence up to which all windows are done. The windows are finished in
 //! any order.
 //!
-//! The rules are in docs/PROFILE.md, "Goal and windows" and "Windows and low water".
+//! docs/PROFILE.md, "Goal and windows" and "Windows and low water", defines the windows and the low water of a front.
 #![tactic(auto)]
 
 mod ends;

@@ -37,8 +37,8 @@ pub(crate) fn is_covered(mark: u64, ranges: &[DoneRange], hi: u64) -> bool
     }
 }
 
-/// Removes the range at an index if this range begins at `hi`. Returns the end of the removed range, or `hi` if the
-/// call removed no range.
+/// Removes the range of done windows at the index `place`, if this range begins at `hi`. If the call removes a range,
+/// it returns the range's end, and otherwise the argument `hi`.
 fn absorb(ranges: &mut Vec<DoneRange>, place: usize, hi: u64) -> u64
     ensures reach { result ≡ (absorbed hi (drop place ranges.old.items)).0 }
     ensures rest { ranges.new.items ≡ take place ranges.old.items ++ (absorbed hi (drop place ranges.old.items)).1 }
@@ -53,8 +53,9 @@ fn absorb(ranges: &mut Vec<DoneRange>, place: usize, hi: u64) -> u64
     }
 }
 
-/// Marks the window `(lo, hi]` as done. The window is above the low water `mark`, and in no range of done windows. The
-/// call merges the window with the low water and with the ranges that the window touches.
+/// Marks the window `(lo, hi]` as done. The window is above the low water `mark`, and in no range of done windows. A
+/// window that begins at the low water raises the low water. A window that touches ranges of done windows is joined
+/// with these ranges.
 ///
 /// An error changes nothing.
 pub(crate) fn join(

@@ -1,4 +1,4 @@
--- Defines the checks of a plan before a run of the pool, as specified in docs/PROFILE.md, "The pool".
+-- Defines the checks that `run` performs before a replication by threads, as specified in docs/PROFILE.md, "The pool".
 use Rattle.std.specs.Prelude.{◌==◌, nat_lt, if◌then◌else◌, Result, Ok, Err}
 use Rattle.repl_peer.specs.peer.Peer.{PeerValue}
 use Rattle.repl_target.specs.replication.Replication.{is_batch}

@@ -39,14 +39,14 @@ pub record IsConcluded (plan : Plan) (fault : Option PoolFault) (complete : Bool
   pub answer : conclude_answer before plan.session ≡ Ok report
   pub peer : after ≡ after_conclude before plan.session plan.at
 
--- The error of a run whose session was recorded instead of concluded. The error is `Unfinished` with the session's low
--- water, or the error of recording the session.
+-- The error of a run that did not conclude its session, but only recorded the session's low water. The error is
+-- `Unfinished` with the session's low water, or the error of recording the session.
 abbrev pub unfinished_at : Result ℕ TargetFault → PoolFault
 unfinished_at (Ok low_water) = faults.Refused (refusals.Unfinished low_water)
 unfinished_at (Err why) = faults.Refused why
 
--- The session of a run was recorded, because a worker failed or stopped, fewer parcels were received than sent, or the
--- session cannot be concluded.
+-- A run did not conclude its session, but only recorded the session's low water. A run only records its session if an
+-- allocation failed, a worker failed or stopped, a sent parcel was not received, or concluding failed.
 pub data IsRecorded (plan : Plan) (fault : Option PoolFault) (complete : Bool) (before after : PeerValue) : PoolFault
     → Type 0 where
   stopped : {why : PoolFault} → fault ≡ Some why → after ≡ after_record before plan.session plan.at
@@ -74,9 +74,9 @@ pub record PutsEntry (source target source' : PeerValue) (plan : Plan) (outcome 
     pub puts : PutsOver source (rep_between source target plan.chosen) entry put source'
     pub done : IfOk outcome (λ _. put ≡ Ok tt)
 
--- The effect of ending a run of the pool. When a run ends, the target either concludes the run's session
--- (`IsConcluded`) or only records the session's low water (`IsRecorded`). The source then stores the log entry of the
--- run's session (`PutsEntry`).
+-- How the end of a replication by the pool changes both peers. When a run ends, the target either concludes the run's
+-- session (`IsConcluded`) or only records the session's low water (`IsRecorded`). The source then stores the log entry
+-- of the run's session (`PutsEntry`).
 pub data ClosesRun (plan : Plan) (fault : Option PoolFault) (complete : Bool)
     (source before source' after : PeerValue) : Result Report PoolFault → Type 0 where
   concluded : {report : Report} {outcome : Result Report PoolFault}
@@ -88,11 +88,11 @@ pub data ClosesRun (plan : Plan) (fault : Option PoolFault) (complete : Bool)
       → PutsEntry source after source' plan (Err why)
       → ClosesRun plan fault complete source before source' after (Err why)
 
--- The effect of ending a run of the pool, with facts about the run's workers. Only calls for the run's session have
--- changed the target from the state `given` to the state `before`. The windows of the run's session are pages of the
--- source's feed. A worker halted only if the gate (which decides whether a worker continues) allows the halt, or if a
--- call of the worker failed. If no worker stopped and all sent parcels were received, the session has read as many
--- documents as the fetchers counted.
+-- How the end of a replication by the pool changes both peers, and what the replication's workers have done before.
+-- Only calls for the run's session have changed the target from the state `given` to the state `before`. The windows of
+-- the run's session are pages of the source's feed. A worker stopped early only at a stage at which the caller's `Gate`
+-- may stop a worker, or because a call of the worker failed. If no worker stopped and all sent parcels were received,
+-- the session has read as many documents as the fetchers counted.
 pub record EndsRun {F : Type 0} (refuses : F → Document → Bool) (may_fill : Type 0) (may_stop : Place → Type 0)
     (plan : Plan) (source : PeerValue) (given : F × PeerValue) (counts : List ℕ) (source' after : PeerValue)
     (outcome : Result Report PoolFault) : Type 0 where
@@ -177,8 +177,8 @@ pub record RunsOn {F : Type 0} (refuses : F → Document → Bool) (may_fill : T
     (plan : Plan) (source target source' target' : F × PeerValue) (fetched : List ℕ) (outcome : Result Report PoolFault)
     : Type 0 where
   -- A run returns each of the four errors of a plan exactly if the error's condition is true. A run with a valid plan
-  -- never returns `Hole`. A run with a valid plan returns `Halted` only if the gate allows the halt, and `BoardFull`
-  -- only if `may_fill` is true.
+  -- never returns `Hole`. A run with a valid plan returns `Halted` only for a stage at which the caller's `Gate` may
+  -- stop a worker. A run with a valid plan returns `BoardFull` only if `may_fill` is true.
   pub early : EarlyOrLate may_fill may_stop (early_answer source.1 target.1 plan) source target source' target' fetched
       outcome
   -- At the source, a run changes only the outgoing logs.
@@ -208,8 +208,8 @@ pub record RunsOn {F : Type 0} (refuses : F → Document → Bool) (may_fill : T
       → IsExpectedRun may_fill may_stop source.1 target.1 plan why)
   -- The guarantees of a run that succeeded.
   pub well : IfOk outcome (EndsWell source.1 target.1 target'.1 plan (sum fetched))
-  -- If the peers of a successful run were consistent, the target covers the source's complete selected feed, including
-  -- the part at or below the start.
+  -- If the peers were consistent before a successful run, the target then covers the source's complete selected feed,
+  -- also below the session's start.
   pub whole : IfOk outcome
       (λ _. IsTiedPair source.1 target.1 plan.chosen
       → CoversFeed source.1 target'.1 plan.chosen source.1.db.update_seq)

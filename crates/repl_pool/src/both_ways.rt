@@ -36,18 +36,20 @@ pub struct SyncRan<F: WriteFilter> {
     pub outcome: Result<Synced, SyncFault>,
 }
 
-/// Replicates in both directions with a pool of threads. The first `run` replicates `a` into `b`. If the first run
-/// succeeds, a second `run` replicates `b` into `a`. The two runs have separate plans, and use the same gate.
+/// Replicates in both directions with a pool of threads. The first `run` replicates `a` into `b` with the plan `there`.
+/// If the first `run` succeeds, a second `run` replicates `b` into `a` with the plan `back`. In both directions,
+/// workers call the same `Gate`.
 ///
-/// A successful call has all guarantees of `sync_alone`. Suppose that the peers are consistent in both directions
-/// (docs/PROFILE.md, "Tied peers"). Then, after a successful call, each side has the other side's leaves of every
-/// document that both plans select, if neither side has refused the document. Suppose also that the trees of such a
-/// document (selected by both plans, rejected by neither side) agreed before the call and had complete histories. `a`
-/// and `b` then have the same document after the successful call. If the peers are consistent in both directions, they
-/// stay consistent for every result of the call. `a` stays consistent with third peers whose UUID differs from `b`'s
-/// UUID, and `b` stays consistent with third peers whose UUID differs from `a`'s UUID.
+/// A successful call has all guarantees of `sync_alone`. A document is shared if both plans of `sync` select the
+/// document, and neither peer has ever rejected it. If the peers were consistent in both directions (docs/PROFILE.md,
+/// "Tied peers"), a successful `sync` gives each peer the other peer's leaves of each shared document. If consistent
+/// peers have agreeing trees with complete histories of a shared document before a successful `sync`, both peers have
+/// the same document afterwards. If the peers are consistent in both directions, they stay consistent for every result
+/// of the call. `a` stays consistent with third peers whose UUID differs from `b`'s UUID, and `b` stays consistent with
+/// third peers whose UUID differs from `a`'s UUID.
 ///
-/// The call blocks until both runs end. The contract does not guarantee that the two runs end.
+/// The call of `sync` blocks until the replications end. The contract of `sync` does not guarantee that the
+/// replications end.
 pub fn sync<F: WriteFilter + Send + Sync, G: Gate + Sync, R: Threads + Wait + Sync>(
     rt: &R,
     alloc: Global,

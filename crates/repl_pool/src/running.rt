@@ -1,4 +1,4 @@
-//! A run of the pool.
+//! Performs one replication with a pool of threads.
 ghost use Rattle.std.specs.Prelude.{◌≡◌, ◌<◌, ◌≤◌, [], true, Some, None, IfOk, is_none, sum, vec_len, option_copied};
 ghost use Rattle.std.specs.List.{All};
 ghost use Rattle.couch_base.specs.Database.{DatabaseValue};
@@ -34,7 +34,7 @@ pub struct Ran<F: WriteFilter> {
     pub source: Peer<F>,
     /// The target.
     pub target: Peer<F>,
-    /// The number of documents that each fetcher counted. The list is empty if no fetcher was started.
+    /// The number of documents that each fetcher counted, or an empty list if the run started no fetcher.
     pub fetched: Vec<u64>,
     /// The board seats (access tokens for the progress board) that the caller gave to the writers, in the given order.
     /// The list of seats is empty after a call of `run`, because a caller of `run` passes no progress board and no
@@ -64,9 +64,9 @@ struct Begun<F: WriteFilter> {
     crew: u64,
 }
 
-/// Returns the number of fetchers of a run, which is also the number of writers. The result is the smaller of the
-/// plan's number of workers and the maximum number of windows that the run can read. If the run has no window to read,
-/// the result is 1.
+/// Returns the number of fetchers of a run, which is also the number of writers. The number of fetchers is the smaller
+/// of the plan's number of workers and the maximum number of windows that the run can read. If the run has no window to
+/// read, and so starts no worker, the call returns 1.
 fn crew_of(plan: &Plan, start: u64, goal: u64) -> u64
     requires workers { 0 < plan.now.workers }
     requires batch { is_batch plan.now.batch ≡ true }
@@ -126,7 +126,7 @@ fn without_workers<F: WriteFilter>(
     end(source, summed, plan)
 }
 
-/// Runs the pool on a target whose session has begun.
+/// Performs a replication with a pool of threads, after its session has begun at the target.
 fn run_begun<
     F: WriteFilter + Send + Sync,
     S: SourceBrand + Send + Sync,
@@ -283,14 +283,16 @@ fn run_with<F: WriteFilter + Send + Sync, G: Gate + Sync, R: Threads + Wait + Sy
 /// number of the run's windows is smaller, and one writer for each fetcher. A fetcher asks the target which leaves are
 /// missing, counts the requested documents at the source, and sends the request to a writer. A writer reads the
 /// requested parcel, settles the parcel, and records the session. A lock protects the target, and the workers share the
-/// source read-only. Workers call the gate at each place (stage of a window), and hold no lock during the call. If the
-/// gate never blocks, a fetcher and a writer share one thread and take turns.
+/// source read-only. Workers call the `Gate`, a callback, at each stage of a window, and hold no lock during the call.
+/// If the `Gate` never blocks a worker (`may_block`), workers need no separate threads, and each fetcher shares a
+/// thread with a writer.
 ///
 /// After all workers have ended, the caller's thread concludes the session. If the session cannot be concluded, the
-/// caller's thread records the session's low water. The caller's thread then stores the session's entry in the source's
-/// log, unless the log has a newer entry of the session. The call does not scan the feed again, because each leaf was
-/// checked when its window was marked as done. The proof shows that the target covers every leaf above the session's
-/// start if the session is concluded. The call therefore never returns the error `Hole`, which names an uncovered leaf.
+/// caller's thread records the session's low water. Last, the caller's thread stores the session's entry in the
+/// source's log, unless the log has a newer entry of the session. The call does not scan the feed again, because each
+/// leaf was checked when its window was marked as done. The proof shows that the target covers every leaf above the
+/// session's start if the session is concluded. The call therefore never returns the error `Hole`, which names an
+/// uncovered leaf.
 ///
 /// If the run succeeds, the target covers each leaf of the source's selected feed above the session's start. A
 /// successful call returns the report of the session, which began at the common checkpoint and has recorded the
@@ -302,26 +304,25 @@ fn run_with<F: WriteFilter + Send + Sync, G: Gate + Sync, R: Threads + Wait + Sy
 ///
 /// At the source, the run changes only the outgoing logs, for every result. The target is unchanged, or has changed
 /// only by beginning the session and by calls with messages of the source. The target keeps all its documents, sessions
-/// and logs. If the peers were consistent, they stay consistent. A third peer that was consistent with the source or
-/// the target stays consistent with that peer under the following two conditions (`KeepsOthersTied`). A third peer that
-/// is another source of the target must not have the source's UUID. A third peer that is another target of the source
-/// must not have the target's UUID. If the peers were consistent (docs/PROFILE.md, "Tied peers"), an audit after the
-/// run finds no uncovered leaf. An uncovered leaf is neither in the document's tree at the target nor in the ledger of
-/// a session.
+/// and logs. If the peers were consistent, they stay consistent. The run keeps third peers consistent with the source
+/// and the target, under two conditions on the third peers' UUIDs (`KeepsOthersTied`). A third peer that is another
+/// source of the target must not have the source's UUID. A third peer that is another target of the source must not
+/// have the target's UUID. If the peers were consistent (docs/PROFILE.md, "Tied peers"), an audit after the run finds
+/// no uncovered leaf. An uncovered leaf is neither in the document's tree at the target nor in the ledger of a session.
 ///
 /// The call blocks until the run ends. The contract does not guarantee that a run ends.
 ///
 /// # Errors
 ///
-/// - `NoWorkers`, `TooManyWorkers`, `BadBatch`, `SamePeer`: the errors of `check_run`, in this order. After an error of
-///   `check_run`, both peers are unchanged.
-/// - `Refused`: a step of the run failed. The error is `Refused(Unfinished)` if no worker failed or stopped, but the
-///   plan's `stop_after` stopped the replication below the source's update sequence.
-/// - `Halted`: the gate returned `Stop` at the place (stage of a window) that the error names.
+/// - `NoWorkers`, `TooManyWorkers`, `BadBatch`, `SamePeer`: the errors of `check_run`, in this order.
+/// - `Refused`: a step of the run failed, or `stop_after` ended the run below the source's update sequence.
+/// - `Halted`: the `Gate` returned `Stop` at the stage of a window that the error names.
 /// - `CountFull`: a fetcher's count of documents would exceed 9,007,199,254,740,991.
 /// - `Memory`: an allocation failed, or a thread cannot be created.
 ///
-/// If several workers failed or were stopped, the run returns the error of one of these workers.
+/// After an error of `check_run`, both peers are unchanged. If the plan's `stop_after` ended the run below the source's
+/// update sequence, and no worker failed or stopped, the run returns `Refused(Unfinished)`. If several workers failed
+/// or were stopped, the run returns the error of one of these workers.
 pub fn run<F: WriteFilter + Send + Sync, G: Gate + Sync, R: Threads + Wait + Sync>(
     rt: &R,
     alloc: Global,
@@ -345,15 +346,16 @@ pub fn run<F: WriteFilter + Send + Sync, G: Gate + Sync, R: Threads + Wait + Syn
 /// (`Board::read`). Each writer updates the board through a separate seat (an access token for the board). Before a
 /// writer settles a parcel, the writer adds the number of documents in the parcel to the read counter of its seat.
 /// After the writer has settled the parcel, it adds the number of settled documents to its settled counter on the
-/// board. The writer calls the gate (the `Gate` that decides whether a worker continues) at the place `Settled` after
-/// it has updated the settled counter. Updating and reading the board takes no lock.
+/// board. After updating its settled counter, a writer calls the `Gate` at the stage `Settled`. Updating and reading
+/// the board takes no lock.
 ///
 /// The caller must give one seat for each worker of the plan. For every outcome, the call returns the seats in order,
-/// and no counter of a seat has decreased. If the run succeeds, the read counters of all seats together have risen by
-/// the report's number of documents read, and so have the settled counters.
+/// and no counter of a seat has decreased. If the run succeeds, the seats' read counters and settled counters have each
+/// risen, in total, by the report's number of documents read.
 ///
 /// In addition to the errors of `run`, the call returns `BoardFull` if a writer's read counter would exceed
-/// 9,007,199,254,740,991. The run does not settle the parcel that would make the counter exceed its maximum.
+/// 9,007,199,254,740,991. A writer does not settle a parcel whose documents would make its read counter exceed
+/// 9,007,199,254,740,991.
 pub fn run_on<F: WriteFilter + Send + Sync, G: Gate + Sync, R: Threads + Wait + Sync>(
     rt: &R,
     alloc: Global,

@@ -1,5 +1,6 @@
--- Defines consistent worlds, in which messages and stored windows come from the source, as specified in
--- docs/PROFILE.md, "Worlds" and "Tied windows and messages".
+-- Defines when two peers, the messages between them and backups are consistent, as specified in docs/PROFILE.md,
+-- "Worlds" and "Tied windows and messages". In a consistent world, each window in transit that has the source's current
+-- life is consistent with the source's database.
 use Rattle.std.specs.Prelude.{◌≡◌, ℕ, ◌≤◌, List, [], Bool, false, Some, None, Result, slice_get}
 use Rattle.doc_json.specs.Document.{Document}
 use Rattle.doc_json.specs.Chosen.{Choice}
@@ -20,8 +21,7 @@ use Rattle.repl_peer.specs.declared.fault.TargetFault.{TargetFault}
 use Rattle.repl_world.specs.Bags.{IsBag}
 use Rattle.repl_world.specs.Worlds.{WorldValue, rep_of}
 
--- The invariants of three parts of world w: the source's database, the target, and the bag of messages. The types of
--- the three parts guarantee the invariants.
+-- The invariants that the Rust types of the source's database, of the target and of the messages in transit guarantee.
 pub record IsWorld (refuses : Document → Bool) (w : WorldValue) : Type 0 where
   pub source : LawfulDatabase w.source.db
   pub target : Lawful refuses w.target
@@ -29,10 +29,10 @@ pub record IsWorld (refuses : Document → Bool) (w : WorldValue) : Type 0 where
 
 -- ---- tied worlds
 
--- The bag of messages has a window at index `place`. The window and the source's database each have a life (a number
--- that each restore of the source raises). If the window at index `place` and the source's database have the same life,
--- `OwnAsked` states that the request `a` is consistent with the window. If the window at index `place` and the source's
--- database have the same life, `OwnParcel` states that the parcel `p` is consistent with the window.
+-- The messages in transit include a window at index `place`. The window and the source's database each have a life (a
+-- number that each restore of the source raises). If the window at index `place` and the source's database have the
+-- same life, `OwnAsked` states that the request `a` is consistent with the window. If the window at index `place` and
+-- the source's database have the same life, `OwnParcel` states that the parcel `p` is consistent with the window.
 pub record OwnAsked (w : WorldValue) (place : ℕ) (a : AskedValue) : Type 0 where
   pub window : WindowValue
   pub own : slice_get w.bag.windows place ≡ Some window
@@ -44,33 +44,34 @@ pub record OwnParcel (w : WorldValue) (place : ℕ) (p : ParcelValue) : Type 0 w
   pub tied : window.life ≡ w.source.db.life → IsTiedParcel w.target.db window p
 
 pub record Tied (w : WorldValue) : Type 0 where
-  -- The target of the world is consistent with the source and with each backup of the source.
+  -- The target is consistent with the source and with each backup of the source.
   pub peers : IsTiedWith w.backups w.source w.target w.chosen
-  -- The life (a number that each restore raises) of each window or log in the bag of messages is at most the life of
-  -- the source's database.
+  -- The life (a number that each restore raises) of each window or log in transit is at most the life of the source's
+  -- database.
   pub window_lives : (x : WindowValue) → Among x w.bag.windows → x.life ≤ w.source.db.life
   pub log_lives : (g : ℕ × List EntryValue) → Among g w.bag.logs → g.0 ≤ w.source.db.life
-  -- If a window in the bag of messages has the current life of the source's database, the window is consistent with
-  -- this database. If the window of a request or parcel in the bag of messages has the current life of the source's
-  -- database, the request or parcel is consistent with the window.
+  -- If a window in transit has the current life of the source's database, the window is consistent with this database.
+  -- If the window of a request or parcel has the current life of the source's database, the request or parcel is
+  -- consistent with the window.
   pub windows : (x : WindowValue) → Among x w.bag.windows → x.life ≡ w.source.db.life
       → IsTiedWindow w.source.db w.chosen x
   pub asked : (a : ℕ × AskedValue) → Among a w.bag.asked → OwnAsked w a.0 a.1
   pub parcels : (p : ℕ × ParcelValue) → Among p w.bag.parcels → OwnParcel w p.0 p.1
   pub logs : (g : ℕ × List EntryValue) → Among g w.bag.logs → g.0 ≡ w.source.db.life
       → AreTiedEntries w.source.db w.target (rep_of w) g.1
-  -- Each log entry in the bag of messages comes from a session of the target.
+  -- Each log entry in transit comes from a session of the target.
   pub entries : (e : EntryValue) → Among e w.bag.entries → IsSentEntry w.target e
 
 -- The target has no session of the replication from the source for the selection `chosen`, and the source has no log
--- entry of this replication. The source and the target may have sessions and log entries of other selections.
+-- entry of this replication. The source and the target may have sessions and log entries of replications that select
+-- other documents than `chosen`.
 pub record HoldNone (source target : PeerValue) (chosen : Choice) : Type 0 where
   pub sessions : (s : SessionValue) → Among s target.sessions → s.rep ≡ rep_between source target chosen → ⊥
   pub log : source_log source (rep_between source target chosen) ≡ []
 
 -- ---- guarantees of tied worlds
 
--- Settling a parcel of the bag never returns `Uncovered` if the session has the parcel's window and this window has the
+-- Settling a parcel in transit never returns `Uncovered` if the session has the parcel's window and this window has the
 -- source's current life. A window has the source's current life if the source's database was not restored after it
 -- produced the window, because each restore raises the life.
 abbrev pub NeverUncovered : (Document → Bool) → WorldValue → Type 0
@@ -81,9 +82,10 @@ NeverUncovered refuses w =
     → (result : Result Settled TargetFault) (now : PeerValue) → SettleGives refuses w.target s.id p.1 result now
     → is_uncovered result ≡ false
 
--- The guarantees of a consistent world. In a consistent world, the target covers the source's feed up to each sequence
--- that the logs of both sides claim, and up to the common checkpoint. An audit in a consistent world finds no leaf that
--- is not covered. The clause `covered` says when settling a parcel never returns `Uncovered`.
+-- What is guaranteed if the peers, the messages between them and the source's backups are consistent (`Tied`). The
+-- target of consistent peers covers the source's feed up to the common checkpoint, and up to each sequence that both
+-- peers' logs claim. An audit of consistent peers finds no uncovered leaf. The clause `covered` says when settling a
+-- parcel never returns `Uncovered`.
 pub record IsTrustworthy (refuses : Document → Bool) (w : WorldValue) : Type 0 where
   pub tied : Tied w
   pub honest : LogsAreHonest w.source w.target w.chosen

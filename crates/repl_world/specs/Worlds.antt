@@ -1,14 +1,14 @@
--- Defines worlds, which have two peers and a bag of messages, and the effect of each step on a world, as specified in
--- docs/PROFILE.md, "Worlds".
+-- Defines a world (two peers, the messages between them, and backups) and the effect of each step on a world, as
+-- specified in docs/PROFILE.md, "Worlds".
 --
 -- A replication exchanges messages: pages of the source's feed, requests for what the target lacks, parcels of
--- documents, and log entries. Messages between two databases may be late, repeated, reordered or lost. A world has two
--- peers, and every message that was sent and not lost. A step is one call on a peer, with any message of the bag of
--- messages. A message stays in the bag of messages when a step uses it, so later steps can use the message in any
--- order. A world has backups of the source. Restoring a backup raises the life (a number) of the source's database. A
--- crash deletes all messages, but does not change the peers and the backups. Every exchange of messages between the two
--- databases is a list of steps, even if other clients write to the databases during the exchange. A statement that is
--- true after every list of steps is therefore true after every exchange of messages.
+-- documents, and log entries. Messages between two databases may be late, repeated, reordered or lost. Besides two
+-- peers, a world has every message that was sent and not lost, and backups of the source. A step is one call on a peer,
+-- with any of the messages in transit. A message stays in transit when a step uses it, so later steps can use the
+-- message in any order. Restoring a backup raises the life (a number) of the source's database. A crash deletes all
+-- messages, but does not change the peers and the backups. Every exchange of messages between the two databases is a
+-- list of steps, even if other clients write to the databases during the exchange. Because every exchange of messages
+-- is a list of steps, a guarantee for all lists of steps also holds for every exchange of messages.
 use Rattle.std.specs.Prelude.{◌≡◌, ◌⊎◌, ℕ, ◌==◌, ◌≤◌, List, [], ◌∷◌, ◌++◌, Bool, if◌then◌else◌, Option, Some, None, IfSome, Result, Ok, Err, take, slice_get}
 use Rattle.rev_tree.specs.declared.origin.SessionId.{SessionId}
 use Rattle.doc_json.specs.Document.{Document}
@@ -55,7 +55,8 @@ new_world source target chosen = record {
   backups = [];
 }
 
--- The result of creating a world, which is `SamePeer` if source and target have the same UUID.
+-- The result of `World::new`: the error `SamePeer` if source and target have the same UUID, and otherwise the new
+-- `World`.
 abbrev pub new_answer : {F : Type 0} → F × PeerValue → F × PeerValue → Choice → Result ((F × F) × WorldValue) WorldFault
 new_answer source target chosen =
     if source.1.db.uuid == target.1.db.uuid then Err SamePeer
@@ -87,9 +88,9 @@ abbrev pub settles : (Document → Bool) → WorldValue → SessionId → Option
 settles refuses w session None = w
 settles refuses w session (Some p) = record w { target = after_settle refuses w.target session p.1 }
 
--- The world after a step settled documents of a parcel, and then ran out of memory. The settled documents are the first
--- documents of the parcel. The number of settled documents is the lesser of n and the number that the step would settle
--- if no allocation failed.
+-- The effect of a `Settle` step that settles at most n documents of a parcel, and then runs out of memory. The settled
+-- documents are the first documents of the parcel. A failed `Settle` step settles n documents, or fewer if it would
+-- settle fewer documents with enough memory.
 abbrev pub stops : (Document → Bool) → WorldValue → SessionId → ℕ → Option (ℕ × ParcelValue) → WorldValue
 stops refuses w session n None = w
 stops refuses w session n (Some p) = record w { target = after_some refuses w.target session p.1 n }
@@ -98,14 +99,15 @@ stops refuses w session n (Some p) = record w { target = after_some refuses w.ta
 abbrev pub entry_in : PeerValue → SessionId → Result EntryValue TargetFault
 entry_in p session = session_answer p session (λ (s : SessionValue). Ok (entry_of s))
 
--- The world after a session of the target is recorded and the session's new entry is added to the bag of messages.
+-- The effect of a `Record` step, which records a session at the target and adds the session's new log entry to the
+-- messages in transit.
 abbrev pub records : WorldValue → SessionId → ℕ → WorldValue
 records w session at =
     let now = after_record w.target session at in
     record w { target = now; bag = told w.bag (entry_in now session) }
 
--- The world after the target was asked to conclude a session. If the target concludes the session without an error, the
--- session's log entry is added to the bag of messages.
+-- The effect of a `Conclude` step, which concludes a session at the target. If the target concludes the session without
+-- an error, the session's log entry is added to the messages in transit.
 abbrev pub concludes : WorldValue → SessionId → ℕ → WorldValue
 concludes w session at =
     let now = after_conclude w.target session at in
@@ -126,13 +128,14 @@ log_of_source w = (w.source.db.life, source_log w.source (rep_of w))
 abbrev pub reads_log : WorldValue → WorldValue
 reads_log w = record w { bag = with_log w.bag (log_of_source w) }
 
--- The common checkpoint that a log in the bag of messages and the target's log have, if there is one.
+-- The common checkpoint of the source's log `log`, which is a message in transit, and of the target's log, if there is
+-- one.
 abbrev pub agreed : WorldValue → List EntryValue → Option (SessionId × ℕ)
 agreed w log = common log (target_log w.target (rep_of w))
 
--- The parameters of a new session of the target. A new session begins at the common checkpoint of two logs: the
--- target's log, and the log `log` from the message bag (the messages in transit). The session has the life (incarnation
--- of the source's database) that the message bag stores with the log `log`.
+-- The parameters of a new session of the target. A new session begins at the common checkpoint of the target's log and
+-- of the source's log `log`, which is a message in transit. The new session has the life (incarnation of the source's
+-- database) that is stored with the message `log`.
 abbrev pub beginning_in : WorldValue → ℕ → ℕ × List EntryValue → Beginning
 beginning_in w goal log = record {
   scope = record { rep = rep_of w; life = log.0; base = base_at (agreed w log.1); goal = goal };
@@ -143,7 +146,7 @@ abbrev pub begins : WorldValue → SessionId → ℕ → ℕ → Option (ℕ × 
 begins w session goal at None = w
 begins w session goal at (Some log) = record w { target = after_begin w.target session (beginning_in w goal log) at }
 
--- The world after the given backup of the source is added, or the unchanged world if making the backup failed.
+-- The effect of a `Backup` step, which adds a backup of the source to the backups, unless making the backup fails.
 abbrev pub backs_up : WorldValue → Result BackupValue TargetFault → WorldValue
 backs_up w (Ok b) = record w { backups = w.backups ++ b ∷ [] }
 backs_up w (Err fault) = w
@@ -171,26 +174,28 @@ happens refuses w Backup = backs_up w (backup_answer w.source)
 happens refuses w (Restore backup) = restores w (slice_get w.backups backup)
 happens refuses w Crash = crashed w
 
--- The world after a list of steps.
+-- The state of the peers, messages and backups after a list of steps.
 abbrev pub run : (Document → Bool) → WorldValue → List Step → WorldValue
 run refuses w [] = w
 run refuses w (step ∷ steps) = run refuses (happens refuses w step) steps
 
 -- ---- failed allocations
 
--- The world after a step ran out of memory. A step that runs out of memory changes nothing, except that a step that
--- settles a parcel may have settled documents of the parcel.
+-- The state `now` after an allocation failed in a `Settle` step. The failed `Settle` step either has no effect, or has
+-- settled some of the parcel's first documents.
 abbrev pub IsStopped : (Document → Bool) → WorldValue → SessionId → Option (ℕ × ParcelValue) → WorldValue → Type 0
 IsStopped refuses w session parcel now =
     (now ≡ w)
     ⊎ (n : ℕ) × IfSome parcel (λ (p : ℕ × ParcelValue). n ≤ most_settled refuses w.target session p.1)
     × (now ≡ stops refuses w session n parcel)
 
+-- The state `now` after an allocation failed in a step. If an allocation fails in a step other than `Settle`, the step
+-- has no effect.
 abbrev pub CutShort : (Document → Bool) → WorldValue → Step → WorldValue → Type 0
 CutShort refuses w (Settle session parcel) now = IsStopped refuses w session (slice_get w.bag.parcels parcel) now
 CutShort refuses w step now = now ≡ w
 
--- The world after a list of steps stopped at a step that ran out of memory. The steps before the failed step have their
+-- The state `now` after an allocation failed in one of the steps of a list. The steps before the failed step have their
 -- complete effects, and the failed step has an effect that `CutShort` allows.
 abbrev pub StoppedIn : (Document → Bool) → WorldValue → List Step → WorldValue → Type 0
 StoppedIn refuses w steps now =

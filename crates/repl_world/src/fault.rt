@@ -2,7 +2,7 @@
 
 use thiserror::Error;
 
-/// The reason why a world cannot be created.
+/// The reason why `World::new` fails.
 #[derive(Clone, Copy, Debug, PartialEq, Eq, Error)]
 pub enum WorldFault {
     /// The source and the target have the same UUID.

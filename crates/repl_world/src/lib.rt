@@ -1,6 +1,7 @@
-//! Theorems about two peers and a bag of messages between them, for every order of steps.
+//! Theorems about two peers and the messages between them, for every order of steps.
 //!
-//! The rules are in docs/PROFILE.md, "Worlds" and "Tied windows and messages".
+//! docs/PROFILE.md, "Worlds" and "Tied windows and messages", defines the steps, and when peers and messages are
+//! consistent.
 #![tactic(auto)]
 
 mod bag;

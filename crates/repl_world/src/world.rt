@@ -1,4 +1,4 @@
-//! Worlds.
+//! Two peers, the messages between them, and the steps that change the peers and the messages.
 ghost use Rattle.std.specs.Prelude.{◌≡◌, ℕ, Some, None, Err, IfOk, OnOk, OnErr};
 ghost use Rattle.couch_base.specs.declared.fault.BaseFault.TheVariants as base_faults;
 ghost use Rattle.repl_peer.specs.session.Settling.{stopped_at};
@@ -18,7 +18,7 @@ use rev_tree::SessionId;
 use std::alloc::{AllocError, Global};
 use std::marker::Model;
 
-/// A world has a source, a target, a bag of windows, requests, parcels, entries and logs, and backups of the source.
+/// Two peers (a source and a target), the messages in transit between them, and backups of the source.
 #[derive(Drop)]
 pub struct World<F: WriteFilter> {
     source: Peer<F>,
@@ -53,11 +53,11 @@ impl<F: WriteFilter + Drop> World<F> {
     ghost use Rattle.repl_world.specs.Worlds.{new_answer};
     ghost use Rattle.repl_world.specs.Tied.{IsWorld, Tied, HoldNone};
 
-    /// Creates a world of two peers, with an empty message bag. The world replicates the selected documents, or all
-    /// documents if there is no selection.
+    /// Creates a `World` of two peers, without messages between them. Replications in the `World` copy the selected
+    /// documents, or all documents if `chosen` is `None`.
     ///
-    /// Returns `SamePeer` if the two databases have the same UUID. The new world is consistent if the target has no
-    /// session, and the source has no log entry, of the world's replication.
+    /// Returns `SamePeer` if the two databases have the same UUID. The new `World` is consistent if the target has no
+    /// session of the replication, and the source has no log entry of the replication.
     pub fn new(
         alloc: Global,
         source: Peer<F>,
@@ -105,7 +105,7 @@ impl<F: WriteFilter> World<F> {
         &self.target
     }
 
-    /// Returns the numbers of windows, requests, parcels, entries and logs in the message bag.
+    /// Returns the counts of windows, requests, parcels, log entries and logs in transit.
     pub fn bag_sizes(&self) -> (usize, usize, usize, usize, usize)
         ensures sizes { result
             ≡ (
@@ -121,8 +121,8 @@ impl<F: WriteFilter> World<F> {
         self.bag.sizes()
     }
 
-    /// States the invariant of the world in its contract, so that proofs can use the invariant. The call has no effect
-    /// at run time.
+    /// States the invariant of the `World` in the contract of `law`, so that proofs can use the invariant. The call has
+    /// no effect at run time.
     fn law(&self)
         ensures { IsWorld (F.refuses self.now.0.1) self.now.1 }
     {
@@ -133,13 +133,13 @@ impl<F: WriteFilter> World<F> {
 
     /// Takes steps in order.
     ///
-    /// If a peer's call fails in a step, the step has the effects of the failed call. A step changes nothing if the
-    /// message bag has no message at the step's index. If an allocation fails, the failed step changes nothing, except
-    /// that a step that settles a parcel may have settled documents of the parcel (`Stopped`).
+    /// If a peer's call fails in a step, the step has the effects of the failed call. If no message or backup has the
+    /// index that a step names, the step changes nothing. If an allocation fails, the failed step changes nothing,
+    /// except that a step that settles a parcel may have settled documents of the parcel (`Stopped`).
     ///
-    /// If a world (two peers and the messages between them) is consistent before the steps, it is consistent after the
-    /// steps. The target of a consistent world covers the source's current feed up to each sequence that the logs of
-    /// both sides claim.
+    /// If the `World` is consistent (docs/PROFILE.md, "Worlds") before the steps, it is consistent after the steps. The
+    /// target of a consistent `World` covers the source's current feed up to each sequence that the logs of both peers
+    /// claim.
     pub fn run(&mut self, alloc: Global, steps: &[Step]) -> Result<(), AllocError>
         ensures filters { self.new.0 ≡ self.old.0 }
         ensures ok { OnOk result (self.new.1 ≡ run (F.refuses self.old.0.1) self.old.1 steps.now) }
@@ -282,7 +282,7 @@ impl<F: WriteFilter> World<F> {
         }
     }
 
-    /// Puts the source's log of the replication into the message bag.
+    /// Adds the source's log of the replication to the messages in transit.
     fn read_log(&mut self, alloc: Global) -> Result<(), AllocError>
         ensures filters { self.new.0 ≡ self.old.0 }
         ensures ok { OnOk result (self.new.1 ≡ reads_log self.old.1) }
@@ -294,8 +294,8 @@ impl<F: WriteFilter> World<F> {
         self.bag.put_log(life, log)
     }
 
-    /// Begins a session of the replication at the target, at the common checkpoint of a log in the message bag and the
-    /// target's log.
+    /// Begins a session at the target, at the common checkpoint of the target's log and a log of the source from the
+    /// messages in transit.
     fn begin(
         &mut self,
         alloc: Global,
@@ -328,7 +328,7 @@ impl<F: WriteFilter> World<F> {
         unless_memory(self.target.begin(session, beginning, at))
     }
 
-    /// Puts a page of the source's feed into the message bag.
+    /// Adds a page of the source's feed to the messages in transit.
     fn page(&mut self, alloc: Global, since: u64, goal: u64, limit: u64) -> Result<(), AllocError>
         ensures filters { self.new.0 ≡ self.old.0 }
         ensures ok { OnOk result (self.new.1 ≡ paged self.old.1 (page_answer self.old.1.source.db since goal limit self.old.1.chosen)) }
@@ -343,7 +343,7 @@ impl<F: WriteFilter> World<F> {
         }
     }
 
-    /// Adds a window from the message bag to a session of the target.
+    /// Adds a window from the messages in transit to a session of the target.
     fn append(&mut self, alloc: Global, session: SessionId, place: usize) -> Result<(), AllocError>
         ensures filters { self.new.0 ≡ self.old.0 }
         ensures ok { OnOk result (self.new.1 ≡ appends self.old.1 session (slice_get self.old.1.bag.windows place)) }
@@ -357,8 +357,8 @@ impl<F: WriteFilter> World<F> {
         unless_memory(self.target.append(session, window))
     }
 
-    /// Computes the target's request for the missing leaves of a window in the message bag, and puts the request into
-    /// the bag.
+    /// Computes the target's request for the missing leaves of a window in transit, and adds the request to the
+    /// messages in transit.
     fn diff(&mut self, alloc: Global, place: usize) -> Result<(), AllocError>
         ensures filters { self.new.0 ≡ self.old.0 }
         ensures ok { OnOk result (self.new.1 ≡ differs self.old.1 place (slice_get self.old.1.bag.windows place)) }
@@ -371,7 +371,7 @@ impl<F: WriteFilter> World<F> {
         self.bag.put_asked(place, asked)
     }
 
-    /// Computes the source's parcel for a request in the message bag, and puts the parcel into the bag.
+    /// Computes the source's parcel for a request in transit, and adds the parcel to the messages in transit.
     fn fetch(&mut self, alloc: Global, place: usize) -> Result<(), AllocError>
         ensures filters { self.new.0 ≡ self.old.0 }
         ensures ok { OnOk result (self.new.1 ≡ fetches self.old.1 (slice_get self.old.1.bag.asked place)) }
@@ -385,8 +385,8 @@ impl<F: WriteFilter> World<F> {
         self.bag.put_parcel(window, parcel)
     }
 
-    /// Settles a parcel from the message bag for a session of the target, that is, applies the documents of the parcel
-    /// in order.
+    /// Settles a parcel from the messages in transit for a session of the target, that is, applies the documents of the
+    /// parcel in order.
     fn settle(&mut self, alloc: Global, session: SessionId, place: usize) -> Result<(), AllocError>
         ensures filters { self.new.0 ≡ self.old.0 }
         ensures ok { OnOk result
@@ -403,7 +403,7 @@ impl<F: WriteFilter> World<F> {
         found_memory(self.target.settle(session, parcel))
     }
 
-    /// Records a session, and puts the session's entry into the message bag.
+    /// Records a session, and adds the session's log entry to the messages in transit.
     fn record(&mut self, session: SessionId, at: Moment) -> Result<(), AllocError>
         ensures filters { self.new.0 ≡ self.old.0 }
         ensures ok { OnOk result (self.new.1 ≡ records self.old.1 session at) }
@@ -412,7 +412,7 @@ impl<F: WriteFilter> World<F> {
         self.bag.record(&mut self.target, session, at)
     }
 
-    /// Concludes a session, and puts the session's entry into the message bag if concluding succeeds.
+    /// Concludes a session, and adds the session's log entry to the messages in transit if concluding succeeds.
     fn conclude(&mut self, session: SessionId, at: Moment) -> Result<(), AllocError>
         ensures filters { self.new.0 ≡ self.old.0 }
         ensures ok { OnOk result (self.new.1 ≡ concludes self.old.1 session at) }
@@ -448,7 +448,7 @@ impl<F: WriteFilter> World<F> {
         unless_memory(self.source.restore(backup))
     }
 
-    /// Stores an entry of the message bag in the source's log.
+    /// Stores a log entry from the messages in transit in the source's log.
     fn put_entry(&mut self, place: usize) -> Result<(), AllocError>
         ensures filters { self.new.0 ≡ self.old.0 }
         ensures ok { OnOk result (self.new.1 ≡ puts self.old.1 (slice_get self.old.1.bag.entries place)) }

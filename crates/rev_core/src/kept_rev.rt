@@ -18,8 +18,8 @@ pub struct KeptRev {
     form: Form,
 }
 
-// `Drop` is implemented by hand, because derived code would be proved again in each crate that owns a `KeptRev`
-// (docs/DECISIONS.md, "Letting values go").
+// `Drop` is implemented by hand, because each crate that owns a `KeptRev` would have to prove the code of
+// `#[derive(Drop)]` again (docs/DECISIONS.md, "Letting values go").
 impl Drop for KeptRev {
     fn drop(self) {
         let KeptRev { form: _ } = self;
@@ -52,7 +52,8 @@ impl Model for KeptRev {
 impl KeptRev {
     ghost use Rattle.std.specs.Prelude.{IfOk};
 
-    /// Converts a revision to a compact revision. The call allocates only if the revision's signature is not short.
+    /// Converts a revision to a compact revision. The call allocates only if the signature has more than 16 bytes and
+    /// is not 32 lower-case hexadecimal digits.
     pub fn keep(alloc: Global, rev: &Rev) -> Result<KeptRev, AllocError>
         ensures { IfOk result (λ k. k ≡ rev.now) }
     {

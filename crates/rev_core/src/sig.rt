@@ -83,7 +83,7 @@ impl Sig {
         &self.bytes[..32]
     }
 
-    /// Returns the other 32 bytes of the signature, with zeros after the end of a shorter signature.
+    /// Returns the last 32 of the 64 bytes in which the signature is stored, with zeros after the end of the signature.
     pub(crate) fn tail(&self) -> &[u8]
         ensures { result.now ≡ drop 32 (padded self.now) }
     {
@@ -94,8 +94,8 @@ impl Sig {
     pub(crate) fn half(&self) -> [u8; 32]
         ensures { result ≡ take 32 (padded self.now) }
     {
-        // An array expression takes fewer instructions than a call of `copy_from_slice`, because the compiler copies an
-        // array that `copy_from_slice` has written once more.
+        // An array expression takes fewer instructions than a call of `copy_from_slice`. After a call of
+        // `copy_from_slice`, the compiler copies the written array a second time.
         let head = &self.bytes;
         [
             head[0], head[1], head[2], head[3], head[4], head[5], head[6], head[7], head[8],
@@ -105,7 +105,8 @@ impl Sig {
         ]
     }
 
-    /// Creates a signature of `len` bytes from two halves of 32 bytes each, which are the signature followed by zeros.
+    /// Creates a signature of `len` bytes from the halves `head` and `tail` of 32 bytes each. The bytes of `head` and
+    /// then of `tail` are the signature followed by zeros.
     pub(crate) fn of_halves(head: &[u8], tail: &[u8], len: u8) -> Sig
         requires head { length head.now ≡ 32 }
         requires tail { length tail.now ≡ 32 }

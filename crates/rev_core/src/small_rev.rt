@@ -1,4 +1,4 @@
-//! Small revisions.
+//! Revisions that take 40 bytes of memory (`SmallRev`).
 ghost use Rattle.std.specs.Prelude.{◌≡◌, ◌+◌, ◌<◌, ◌≤◌, false, take, drop, length, IfOk};
 ghost use Rattle.rev_core.specs.Rev.{RevId, IsRev, rev_cmp};
 ghost use Rattle.rev_core.specs.Sig.{padded};
@@ -10,7 +10,7 @@ use std::alloc::{AllocError, Global};
 use std::cmp::Ordering;
 use std::marker::Model;
 
-/// The maximum number of bytes of a signature that a small revision stores without a heap block.
+/// The maximum number of bytes of a signature that a `SmallRev` stores without a heap block.
 const MOST_INLINE: usize = 32;
 
 /// The bytes after a signature of at most 32 bytes.
@@ -18,22 +18,23 @@ const ZEROS: [u8; 32] = [0; 32];
 
 /// A small revision, which takes 40 bytes instead of the 72 bytes of a `Rev`.
 ///
-/// A revision whose signature has at most 32 bytes is stored in the `SmallRev` itself. A revision with a longer
-/// signature is stored in a heap block. A `KeptRev` takes 24 bytes, but must be unpacked before it is compared.
+/// A revision whose signature has at most 32 bytes is stored in the `SmallRev` itself. A signature of more than 32
+/// bytes is stored in a heap block. A `KeptRev` takes 24 bytes, but must be unpacked before it is compared.
 #[derive(Debug)]
 pub struct SmallRev {
     form: Form,
 }
 
-// `Drop` is implemented by hand, because derived code would be proved again in each crate that owns a `SmallRev`
-// (docs/DECISIONS.md, "Letting values go").
+// `Drop` is implemented by hand, because each crate that owns a `SmallRev` would have to prove the code of
+// `#[derive(Drop)]` again (docs/DECISIONS.md, "Letting values go").
 impl Drop for SmallRev {
     fn drop(self) {
         let SmallRev { form: _ } = self;
     }
 }
 
-/// The two forms in which a small revision is stored.
+/// The two forms in which a `SmallRev` stores a revision, with the signature either in the `SmallRev` itself or in a
+/// heap block.
 #[derive(Debug, Drop)]
 enum Form {
     Inline {
@@ -59,14 +60,15 @@ impl Model for SmallRev {
 }
 
 impl SmallRev {
-    /// Whether a small revision stores the revision in a heap block, because the signature has more than 32 bytes.
+    /// Whether a `SmallRev` stores the revision's signature in a heap block, because the signature has more than 32
+    /// bytes.
     pub fn is_long(rev: &Rev) -> bool
         ensures { result ≡ is_long rev.now }
     {
         rev.sig_bytes().len() > MOST_INLINE
     }
 
-    /// Converts a revision whose signature has at most 32 bytes to a small revision.
+    /// Converts a revision whose signature has at most 32 bytes to a `SmallRev`.
     pub fn inline(rev: &Rev) -> SmallRev
         requires { is_long rev.now ≡ false }
         ensures { result ≡ rev.now }
@@ -80,7 +82,8 @@ impl SmallRev {
         }
     }
 
-    /// Converts a revision to a small revision, without allocating. The call takes a heap block from the given list.
+    /// Converts a revision to a `SmallRev`, without allocating. The call removes the last heap block from the list
+    /// `blocks`, and stores the signature in this block.
     pub fn long(rev: &Rev, blocks: &mut Vec<Box<Sig>>) -> SmallRev
         requires { 0 < length blocks.old.items }
         ensures rev { result ≡ rev.now }
@@ -120,7 +123,7 @@ impl SmallRev {
         }
     }
 
-    /// Returns the other 32 bytes of the signature, with zeros after the end of a shorter signature.
+    /// Returns 32 bytes, which are the signature's bytes after the first 32, followed by zeros.
     fn tail(&self) -> &[u8]
         ensures { result.now ≡ drop 32 (padded self.now.sig) }
     {
@@ -215,7 +218,7 @@ impl SmallRev {
     }
 }
 
-/// Copies a revision that is stored in a heap block.
+/// Copies a revision whose signature is stored in a heap block.
 // The function `copy_long` is not inlined, because copying other revisions takes more instructions if `copy_long` is
 // inlined.
 #[inline(never)]

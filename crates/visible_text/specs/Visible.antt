@@ -5,9 +5,9 @@ use Rattle.std.specs.Int.{is_in_range}
 use Rattle.std.specs.Char.{digit_char, is_control}
 use Rattle.std.specs.List.{flat_map, list_any}
 
--- The ranges of hidden characters above U+009F. The hidden characters are format characters, direction marks, line and
--- paragraph separators, and characters that Unicode 15 calls default-ignorable. The characters U+FFFE and U+FFFF are
--- also hidden, because XML forbids them.
+-- The ranges of hidden characters (which are printed only as escapes) above U+009F. The ranges have format characters,
+-- direction marks, line and paragraph separators, and characters that Unicode 15 calls default-ignorable. U+FFFE and
+-- U+FFFF are in the ranges because XML forbids these two characters.
 abbrev pub hidden_ranges : List (ℕ × ℕ)
 hidden_ranges =
     (0xAD, 0xAD) ∷ (0x34F, 0x34F) ∷ (0x600, 0x605) ∷ (0x61C, 0x61C) ∷ (0x6DD, 0x6DD) ∷ (0x70F, 0x70F) ∷ (0x890, 0x891)
@@ -16,11 +16,12 @@ hidden_ranges =
     ∷ (0xFFFE, 0xFFFF) ∷ (0x110BD, 0x110BD) ∷ (0x110CD, 0x110CD) ∷ (0x13430, 0x1343F) ∷ (0x1BCA0, 0x1BCA3)
     ∷ (0x1D173, 0x1D17A) ∷ (0xE0000, 0xE0FFF) ∷ []
 
--- Whether a character is hidden, that is, is a control character, or is in one of the hidden ranges.
+-- Whether a character is hidden, that is, is printed only as an escape. Hidden characters are the control characters
+-- and the characters in `hidden_ranges`.
 unfoldable pub is_hidden : ℕ → Bool
 is_hidden c = is_control c || list_any (λ r. is_in_range r.0 r.1 c) hidden_ranges
 
--- No character of a text is hidden.
+-- A text has no hidden character, that is, no control character and no character in `hidden_ranges`.
 abbrev pub IsSeen : List ℕ → Type 0
 IsSeen cs = list_any is_hidden cs ≡ false
 
@@ -43,13 +44,14 @@ visible_char c = if is_hidden c then escape_of c else c ∷ []
 abbrev pub visible : List ℕ → List ℕ
 visible cs = flat_map visible_char cs
 
--- The text for one character of a JSON string without hidden characters.
+-- The text that represents one character in a JSON string. A hidden character, a quotation mark or a backslash is
+-- represented by its escape.
 abbrev pub quoted_char : ℕ → List ℕ
 quoted_char c = if c == 34 then 92 ∷ 34 ∷ [] else if c == 92 then 92 ∷ 92 ∷ [] else visible_char c
 
 abbrev pub quoted_chars : List ℕ → List ℕ
 quoted_chars cs = flat_map quoted_char cs
 
--- A text as a JSON string without hidden characters.
+-- A text as a JSON string, in which hidden characters are escaped.
 abbrev pub quoted : List ℕ → List ℕ
 quoted cs = 34 ∷ (quoted_chars cs ++ 34 ∷ [])

@@ -5,9 +5,9 @@ ghost use Rattle.visible_text.specs.Visible.{is_hidden, unit_of, escape_of, visi
 
 use std::alloc::AllocError;
 
-/// Whether a character is hidden. Hidden characters are control characters, format characters, direction marks, line
-/// and paragraph separators, characters that Unicode 15 calls default-ignorable, and U+FFFE and U+FFFF, which XML
-/// forbids.
+/// Whether a character is hidden, that is, is printed only as an escape. Hidden characters are control characters,
+/// format characters, direction marks, line and paragraph separators, characters that Unicode 15 calls
+/// default-ignorable, and U+FFFE and U+FFFF, which XML forbids.
 #[tactic(auto, unfolding(crate::specs::Visible::is_hidden))]
 pub fn is_hidden(c: char) -> bool
     ensures { result ≡ is_hidden c }
@@ -67,7 +67,7 @@ fn hex_digit(digit: u32) -> char
     }
 }
 
-/// Appends a character, or the character's escape if the character is hidden.
+/// Appends a character, or its JSON escape if `is_hidden` returns true for the character.
 fn push_visible_char(out: &mut String, c: char) -> Result<(), AllocError>
     ensures { OnOk result (string_bytes out.new ≡ string_bytes out.old ++ encode_utf8_all (visible_char c)) }
 {

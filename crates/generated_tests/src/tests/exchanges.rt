@@ -13,7 +13,7 @@ use rev_core::Rev;
 use std::alloc::Global;
 use std::process::Abort;
 
-/// A database, and the database's reference (`PlainSide`).
+/// A database, and a simple model (`PlainSide`) with which the tests compare the database.
 #[derive(Drop)]
 pub(crate) struct Side {
     pub(crate) db: Database,

@@ -1,5 +1,5 @@
-//! Compares two representations of a revision tree, `Tree` and `PlainTree`, after random merges. Each call must have
-//! the same result for both representations of the tree.
+//! Compares two representations of a revision tree, `Tree` and `PlainTree`, after random merges. After the same merges,
+//! each call on a `Tree` must return the same result as the call on a `PlainTree`.
 
 use crate::tests::checks::holds;
 use crate::tests::merges::{ancestry, below, content, places, rev};
@@ -75,7 +75,7 @@ fn has_as(tree: &Tree, plain: &PlainTree, one: Rev) -> bool {
     stands && tree.origin(one) == origin && tree.is_leaf(one) == plain.is_leaf(one)
 }
 
-/// Asserts that both representations of the tree agree about a revision.
+/// Asserts that a `Tree` and a `PlainTree` agree about a revision, for example about its parent and its content.
 fn agree_on_rev(rt: &impl Abort, alloc: Global, tree: &Tree, plain: &PlainTree, one: Rev) {
     holds(rt, has_as(tree, plain, one), "a revision");
     holds(rt, tree.parent_of(one) == plain.parent_of(one), "a parent");
@@ -139,7 +139,8 @@ fn ancestry_by_chance(rt: &impl Abort, alloc: Global, rng: &mut ChaCha8Rng) -> A
     ancestry(rt, alloc, &places)
 }
 
-/// Merges a random ancestry into both representations of the tree, and compares both results.
+/// Merges a random ancestry into a `Tree` and a `PlainTree`. Asserts that both merges return the same result, and that
+/// the `Tree` and the `PlainTree` then agree about the merged revisions.
 fn merge(
     rt: &impl Abort,
     alloc: Global,
@@ -161,7 +162,7 @@ fn merge(
     agree(rt, alloc, tree, plain, given.revs());
 }
 
-/// Merges a random ancestry into both representations of the tree. Then asserts that both representations return equal
+/// Merges a random ancestry into a `Tree` and a `PlainTree`. Asserts that the `Tree` and the `PlainTree` return equal
 /// results for the revisions of another random ancestry.
 fn merge_and_read(
     rt: &impl Abort,
@@ -179,10 +180,10 @@ fn merge_and_read(
     agree(rt, alloc, tree, plain, asked.revs());
 }
 
-/// Performs fifty random merges, which a seed determines, in both representations of the tree. After each merge, the
-/// function compares the merged revisions and other revisions in both representations. After about half of the merges,
-/// chosen at random, the function replaces the tree by a copy. After the last merge, the function compares every
-/// revision.
+/// Performs fifty random merges, which the argument `seed` determines, in a `Tree` and a `PlainTree`. After each merge,
+/// the function compares the merged revisions and random other revisions of the `Tree` and the `PlainTree`. After about
+/// half of the merges, chosen at random, the function replaces the `Tree` by a copy. After the last merge, the function
+/// compares every possible revision of the `Tree` and the `PlainTree`.
 fn merges_alike(rt: &impl Abort, alloc: Global, seed: u64, tree: &mut Tree) {
     let mut rng = ChaCha8Rng::seed_from_u64(seed);
     let mut plain = PlainTree::new(alloc);

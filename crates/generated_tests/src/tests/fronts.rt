@@ -69,8 +69,9 @@ fn finish_one(rt: &impl Abort, front: &mut Front, lo: u64, is_done: bool) {
     );
 }
 
-/// Whether a front has the low water and the number of groups of done windows that follow from `marks`. The Boolean
-/// `marks[i]` states whether the front's window with the index i is done.
+/// Whether a front has the expected low water and the expected number of groups of adjacent done windows. The expected
+/// values are computed from the list `marks`, in which `marks[i]` states whether the front's window with the index i is
+/// done.
 fn is_marked(front: &Front, start: u64, marks: &[bool; WINDOWS]) -> bool {
     front.low_water() == low_water(start, marks) && front.range_count() == range_count(marks)
 }

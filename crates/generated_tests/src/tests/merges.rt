@@ -33,7 +33,7 @@ pub(crate) fn rev(rt: &impl Abort, place: usize) -> Rev {
     }
 }
 
-/// Whether a list of revisions is the list of the revisions at the given indices.
+/// Whether `revs` is the list of those revisions that the module `reference` represents by the indices `places`.
 pub(crate) fn are(rt: &impl Abort, revs: &[Rev], places: &[usize]) -> bool {
     let mut are = revs.len() == places.len();
     for (one, place) in revs.iter().zip(places) {

@@ -80,8 +80,8 @@ fn plans(rt: &impl Abort, alloc: Global, rng: &mut ChaCha8Rng, sessions: &mut u1
     plans
 }
 
-/// Returns the hops of two rounds along a ring of all peers. Chains of these hops lead from every peer to every other
-/// peer.
+/// Returns the hops of two rounds along a ring of all peers. In two rounds along a ring, chains of hops lead from every
+/// peer to every other peer.
 fn ring(rt: &impl Abort, alloc: Global, rng: &mut ChaCha8Rng, sessions: &mut u128) -> Vec<Hop> {
     let mut hops = Vec::new(alloc);
     for step in 0..2 * PEERS {
@@ -109,8 +109,8 @@ fn hops(rt: &impl Abort, alloc: Global, rng: &mut ChaCha8Rng, sessions: &mut u12
     hops
 }
 
-/// Returns a mask for each peer. A peer's mask has a bit for the peer itself, and for each peer to which a chain of
-/// hops leads from this peer.
+/// Returns, for each peer, the set of peers to which a chain of hops leads from this peer, as a bit mask. A peer's set
+/// also contains the peer itself.
 ///
 /// The function processes each hop once for each peer, instead of enumerating all chains of hops.
 fn reached(hops: &[Hop]) -> [u32; PEERS] {
@@ -236,7 +236,7 @@ fn of_seed(rt: &impl Abort, alloc: Global, seed: u64) {
 }
 
 /// Repeatedly edits the peers' documents at random, and replicates along random hops. Returns the number of rounds in
-/// which chains of hops led from every peer to every other peer.
+/// which the random hops of the round formed chains from every peer to every other peer.
 fn by_chance(rt: &impl Abort, alloc: Global, seed: u64) -> usize {
     let mut rng = ChaCha8Rng::seed_from_u64(seed);
     let mut sessions = 0;

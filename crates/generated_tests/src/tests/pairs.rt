@@ -24,17 +24,19 @@ use std::thread::Threads;
 /// the target refuses no document.
 const CHOICES: u32 = 8;
 
-/// Three indices in the list `Bench::picked`: `WHOLE` is the index for all documents, `FIRST` for the first selection,
-/// and `SECOND` for the second selection.
+/// The index of the set of all documents in the list `Bench::picked`.
 const WHOLE: usize = 0;
 
+/// The index of the first selection (a random set of documents) in the list `Bench::picked`.
 const FIRST: usize = 1;
 
+/// The index of the second selection (a random set of documents) in the list `Bench::picked`.
 const SECOND: usize = 2;
 
-/// The numbers of the two sources of a `Bench`. The source with number n is `Bench::sides[n + 1]`.
+/// The number of the first source in the steps of a test. The source with number n is `Bench::sides[n + 1]`.
 const SOURCE: usize = 0;
 
+/// The number of the second source in the steps of a test.
 const OTHER: usize = 1;
 
 /// A step of a test.
@@ -48,9 +50,10 @@ enum Call {
     Replicate(usize, usize),
 }
 
-/// The steps of a test. The second source is replicated into a target that has other documents. Then the first source
-/// is replicated into the target, for one selection and then completely. After further loads into the first source, the
-/// first source is replicated for each selection and then completely.
+/// The steps of a test with two sources and one target. The test first loads random documents into both sources and the
+/// target, and replicates all documents of the source `OTHER`. After the source `OTHER`, the test replicates the source
+/// `SOURCE`, first for one selection and then for all documents. At the end, the test loads more documents into the
+/// source `SOURCE`, and replicates this source for two selections and for all documents.
 static CALLS: &[Call] = &[
     Call::Grow(OTHER, 10),
     Call::GrowTarget(5),
@@ -64,8 +67,8 @@ static CALLS: &[Call] = &[
     Call::Replicate(SOURCE, WHOLE),
 ];
 
-/// A peer and the peer's plain model. The array `carried` has the three sequences of the peer up to which the target
-/// has replicated all documents, the first selection, and the second selection.
+/// A peer and the peer's plain model. For a source, `carried[i]` is the sequence up to which the target has replicated
+/// the documents of `Bench::picked[i]`.
 #[derive(Drop)]
 struct Side {
     peer: Peer<Rules>,
@@ -74,8 +77,8 @@ struct Side {
 }
 
 impl Side {
-    /// Creates a side (a peer and the peer's plain model) without documents. The side refuses documents whose ids begin
-    /// with a prefix.
+    /// Creates a peer without documents, and the peer's plain model. If `deny` is a prefix, the peer's filter rejects
+    /// documents whose ids begin with this prefix.
     fn new(alloc: Global, uuid: u128, deny: Option<String>) -> Side {
         Side {
             peer: Peer::new(alloc, uuid, Rules { deny }),
@@ -102,7 +105,7 @@ impl Side {
 struct Bench {
     alloc: Global,
     rng: ChaCha8Rng,
-    /// The number of workers, or 0 for one thread.
+    /// The number of the pool's workers, or 0 for replications without the pool (`replicate_alone`).
     workers: u64,
     deny: Option<usize>,
     /// The sets of documents that the test replicates: all documents, and two selections.
@@ -118,7 +121,8 @@ impl Bench {
         let number = below(&mut rng, CHOICES);
         let deny = if number < IDS { Some(number) } else { None };
         let first = some(&mut rng);
-        // The second selection is one of the 31 nonempty selections, and differs from the first selection.
+        // The masks of nonempty selections are the numbers 1 to 31. The second selection's mask is the number after the
+        // first selection's mask, or 1 after 31.
         let second = first % 31 + 1;
         let mut bench = Bench {
             alloc,

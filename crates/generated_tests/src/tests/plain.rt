@@ -1,16 +1,15 @@
 //! The plain form of a revision tree: a list of merged ancestries, a list of contents, and a list of origins.
 //!
-//! The plain form is slow and simple. To find an entry, each function of this file scans the list of ancestries,
-//! contents or origins without an index, and uses the first matching entry.
+//! `PlainTree` is slower and simpler than `Tree`. To find an entry, each function of this file scans the list of
+//! ancestries, contents or origins without an index, and uses the first matching entry.
 
 use rev_core::{Ancestry, Rev};
 use rev_tree::{Merged, Origin};
 use std::alloc::{AllocError, Global};
 use std::cmp::Ordering;
 
-/// The result of a merge. If the merge fails, the error has three revisions. The first revision has different parents
-/// in the tree and in the given ancestry. The second revision is the first revision's parent in the tree, and the third
-/// revision is the first revision's parent in the ancestry.
+/// The result of a merge. In the error `(child, known, given)` of a merge, `child` has the parent `known` in the tree,
+/// and a different parent `given` in the ancestry.
 pub(crate) type PlainAnswer = Result<Merged, (Rev, Rev, Rev)>;
 
 /// A plain revision tree: the merged ancestries, and the contents and origins of revisions.
@@ -139,8 +138,8 @@ impl PlainTree {
         Ok(missing)
     }
 
-    /// Finds the newest revision that has one parent in the tree and a different parent in the given ancestry. Returns
-    /// the revision, the revision's parent in the tree, and the revision's parent in the ancestry.
+    /// Returns `(child, known, given)` for the newest revision `child` that has the parent `known` in the tree, and a
+    /// different parent `given` in the ancestry.
     fn contradiction(&self, revs: &[Rev]) -> Option<(Rev, Rev, Rev)> {
         for pair in revs.windows(2) {
             if let [child, given] = pair {

@@ -10,7 +10,7 @@ pub(crate) const IDS: usize = 5;
 /// The sequence of the latest change and the revision tree of each existing document.
 pub(crate) type Documents = [Option<(u64, Reference)>; IDS];
 
-/// A mask with a bit for each selected document. All bits are set if all documents are selected.
+/// A mask with a bit for each selected document. If all documents are selected, all 32 bits of the mask are set.
 pub(crate) type Picked = u32;
 
 /// All documents.
@@ -42,8 +42,8 @@ pub(crate) fn next_above(documents: &Documents, seq: u64, goal: u64) -> Option<(
 pub(crate) type Masks = [u32; IDS];
 
 /// A ledger row: the document's number, the document's newest revision, and the child, known parent and given parent of
-/// a contradiction. If the filter refuses the document, there is no contradiction, and the last three items of the row
-/// are `PLACES`.
+/// a contradiction. In the ledger row of a document that the filter refuses, the child and its two parents are
+/// `PLACES`.
 pub(crate) type Row = [usize; 5];
 
 /// A peer's plain model: each document's tree and latest sequence, and the revisions of refused documents.

@@ -1,6 +1,6 @@
-//! A plain model of a world, written from docs/PROFILE.md, "Worlds", "Sessions of a peer", "Settling" and "Backup and
-//! restore". The model represents trees as bit masks, a feed as a scan of all documents, and messages and sessions as
-//! tables of rows.
+//! A plain model of two peers and the messages between them, written from docs/PROFILE.md, "Worlds", "Sessions of a
+//! peer", "Settling" and "Backup and restore". The model represents trees as bit masks, a feed as a scan of all
+//! documents, and messages and sessions as tables of rows.
 use crate::tests::plain_sides::{
     ALL, IDS, Masks, Picked, PlainSide, Row, is_picked, next_above, take_leaf,
 };
@@ -9,7 +9,7 @@ use std::alloc::Global;
 use std::process::Abort;
 
 /// The number of the document that is edited and never loaded. In the reference model, the edited document's revision
-/// of generation g has the index 3 (g - 1).
+/// of generation g has the index `3 * (g - 1)`.
 pub(crate) const EDITED: usize = 4;
 
 /// A window, or a request for leaves of a window: the life (incarnation) of the source's database, the bounds, and the
@@ -68,7 +68,7 @@ struct Copied {
     log: SourceLog,
 }
 
-/// Counts how often four situations, which only restores cause, occur in a list of steps.
+/// Counts of events in a list of steps that occur only if a step restores the source from a backup.
 #[derive(Clone, Copy, Debug)]
 pub(crate) struct Met {
     /// The number of restores while windows, entries or logs were in transit.
@@ -94,7 +94,7 @@ impl Met {
         }
     }
 
-    /// Adds the counts of another list of steps.
+    /// Adds the counts in `other`, which come from another list of steps, to the counts in `self`.
     pub(crate) fn add(&mut self, other: &Met) {
         self.restores = self.restores.saturating_add(other.restores);
         self.begins = self.begins.saturating_add(other.begins);
@@ -126,7 +126,8 @@ struct Stored {
     is_done: bool,
 }
 
-/// The sessions of a target, and the windows and ledger rows of all sessions. Each list begins with the oldest item.
+/// The sessions of a target, and the windows and ledger rows of all sessions. Each of the lists `begun`, `windows` and
+/// `ledger` begins with the oldest item.
 #[derive(Drop)]
 pub(crate) struct Sessions {
     begun: Vec<Session>,
@@ -249,8 +250,9 @@ impl Sessions {
         low
     }
 
-    /// Returns the common checkpoint of a source's log and the target's sessions. The common checkpoint is the lesser
-    /// of the two recorded sequences of the newest session that both have, or 0 if they have no common session.
+    /// Returns the common checkpoint of a source's log and the target's sessions. For the newest session that the log
+    /// and the target share, the common checkpoint is the lesser of the two recorded sequences. Without a shared
+    /// session, the common checkpoint is 0.
     fn agreed(&self, entries: &[Done]) -> u64 {
         for held in self.begun.iter().rev() {
             if let Some(place) = place_in(entries, held.done.session) {
@@ -427,8 +429,8 @@ fn put_done(rt: &impl Abort, log: &mut Vec<Done>, done: Done) {
     }
 }
 
-/// The plain model of a world: a source, a target, the target's sessions, the source's log, the messages, and the
-/// source's backups. Each list of the model begins with the oldest item.
+/// The plain model of two peers that exchange messages: a source, a target, the target's sessions, the source's log,
+/// the messages, and the source's backups. Each list of the model begins with the oldest item.
 #[derive(Drop)]
 pub(crate) struct PlainWorld {
     pub(crate) source: PlainSide,
@@ -449,7 +451,8 @@ pub(crate) struct PlainWorld {
 }
 
 impl PlainWorld {
-    /// Creates a world without documents, in which the target refuses no document and all documents are replicated.
+    /// Creates a model of two peers without documents and messages. In the new model, the target accepts every
+    /// document, and all documents are replicated.
     pub(crate) fn new(alloc: Global) -> PlainWorld {
         PlainWorld {
             source: PlainSide::new(),
@@ -471,8 +474,7 @@ impl PlainWorld {
         }
     }
 
-    /// Returns the numbers of windows, requests, parcels, entries and logs in the message bag, which has the messages
-    /// in transit.
+    /// Returns the numbers of windows, requests, parcels, log entries and logs among the messages in transit.
     pub(crate) fn sizes(&self) -> (usize, usize, usize, usize, usize) {
         (
             self.windows.len(),
@@ -561,8 +563,8 @@ impl PlainWorld {
         self.logs.push(log).expect(rt, "memory");
     }
 
-    /// Begins a session from a log in the message bag (the messages in transit), if the log exists and
-    /// `Sessions::begin` accepts the session.
+    /// Begins a session from a log among the messages in transit, if the log exists and `Sessions::begin` accepts the
+    /// session.
     pub(crate) fn begin(
         &mut self,
         rt: &impl Abort,
@@ -589,7 +591,7 @@ impl PlainWorld {
         }
     }
 
-    /// Stores a window from the message bag (the messages in transit) in a session.
+    /// Stores a window from the messages in transit in a session.
     pub(crate) fn append(&mut self, rt: &impl Abort, session: u128, window: usize) {
         if let Some(rows) = self.windows.get(window) {
             self.sessions.append(rt, session, *rows);
@@ -627,7 +629,7 @@ impl PlainWorld {
         }
     }
 
-    /// Records or concludes a session, and puts the session's entry into the message bag (the messages in transit).
+    /// Records or concludes a session, and adds the session's log entry to the messages in transit.
     pub(crate) fn record(&mut self, rt: &impl Abort, session: u128, concludes: bool, time: u64) {
         if let Some(done) = self.sessions.record(session, concludes, time) {
             self.entries.push(done).expect(rt, "memory");

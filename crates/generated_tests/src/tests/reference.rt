@@ -2,8 +2,8 @@
 //! a, b or c.
 //!
 //! The revision at index `p` has generation `p / 3 + 1` and signature `p % 3`, so indices and revisions have the same
-//! order. The reference is written from docs/PROFILE.md, "Merging" and "Leaves and the winner", with masks for sets and
-//! `|` for the union.
+//! order. This model of revision trees follows docs/PROFILE.md, "Merging" and "Leaves and the winner", and represents
+//! each set of revisions by a bit mask.
 
 use std::alloc::{AllocError, Global};
 use std::process::Abort;
@@ -93,8 +93,8 @@ impl Reference {
         self.origins[place % PLACES]
     }
 
-    /// Finds the newest revision that has one parent in the tree and a different parent in the given ancestry. Returns
-    /// the revision, the revision's parent in the tree, and the revision's parent in the ancestry.
+    /// Returns `Contradiction` for the newest revision `child` that has the parent `known` in the tree, and a different
+    /// parent `given` in the ancestry.
     pub(crate) fn contradiction(&self, revs: &[usize]) -> Option<Answer> {
         for pair in revs.windows(2) {
             if let [child, given] = pair {

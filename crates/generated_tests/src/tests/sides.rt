@@ -48,8 +48,8 @@ fn agrees_on(
     same && covers
 }
 
-/// Whether a tree and a plain tree have the same number of revisions, and the same leaves with the same ancestries and
-/// contents.
+/// Whether a `Tree` and its simple model `Reference` have the same number of revisions, and the same leaves with equal
+/// ancestries and contents.
 fn is_tree(rt: &impl Abort, alloc: Global, tree: &Tree, wanted: &Reference) -> bool {
     let places = wanted.leaves(alloc).expect(rt, "memory");
     let leaves = tree.leaves(alloc).expect(rt, "memory");
@@ -60,7 +60,7 @@ fn is_tree(rt: &impl Abort, alloc: Global, tree: &Tree, wanted: &Reference) -> b
     same
 }
 
-/// Whether a leaf has the same ancestry and content in a tree and in a plain tree.
+/// Whether a leaf has the same ancestry and content in a `Tree` and in its simple model `Reference`.
 fn is_leaf(rt: &impl Abort, alloc: Global, tree: &Tree, wanted: &Reference, place: usize) -> bool {
     let one = rev(rt, place);
     let walk = tree.ancestry(alloc, one).expect(rt, "a revision");

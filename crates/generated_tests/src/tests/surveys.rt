@@ -61,8 +61,8 @@ fn names(rt: &impl Abort, comparison: &Comparison, place: Option<usize>) -> bool
     }
 }
 
-/// Asserts that a document's comparison agrees with the document's trees in the reference model of the source and the
-/// reference model of the target.
+/// Asserts that a document's comparison has the expected missing, differing and contradicting revisions. The argument
+/// `tree` is the document's expected tree at the source, and `held` is the expected tree at the target.
 fn says(
     rt: &impl Abort,
     alloc: Global,
@@ -88,7 +88,7 @@ fn says(
     holds(rt, names(rt, comparison, place), "what contradicts");
 }
 
-/// Compares each document of two sides, and returns the total of the differences.
+/// Compares each document of a source and a target, and returns the total of the differences.
 fn compares(rt: &impl Abort, alloc: Global, source: &Side, target: &Side) -> Total {
     let mut total = Total::none();
     for number in 0..IDS {
@@ -131,8 +131,8 @@ fn counts(census: &mut Census, tree: &Reference, leaves: usize, live: usize) {
     census.revisions = census.revisions.saturating_add(tree.count() as u64);
 }
 
-/// Compares the conflicts and the counts of a side's database with the reference model. Returns the number of documents
-/// in conflict.
+/// Asserts that the conflicts that `conflicting` finds in a database, and the counts that `census_of` returns, agree
+/// with the reference model. Returns the number of documents in conflict.
 fn in_conflict(rt: &impl Abort, alloc: Global, side: &Side) -> u64 {
     let mut wanted = Census::none();
     for number in 0..IDS {
@@ -174,8 +174,8 @@ fn has_leaves(rt: &impl Abort, alloc: Global, database: &Database, plain: &Plain
     }
 }
 
-/// Puts all leaves of a side's documents into an empty database, and asserts that this database then has the same
-/// leaves.
+/// Copies all leaves of a database into the empty database `again`, and asserts that `again` then has the leaves of the
+/// reference model.
 fn comes_back(rt: &impl Abort, alloc: Global, side: &Side, again: &mut Database) {
     for number in 0..IDS {
         give(rt, alloc, &side.db, &id(rt, alloc, number), again);
@@ -213,8 +213,8 @@ fn two_hundred_pairs_agree(rt: HostRuntime) {
             found[at] = found[at].saturating_add(more[at]);
         }
     }
-    // The test asserts that all pairs together have more than 100 contradicting documents, 50 differing leaves and 100
-    // documents in conflict.
+    // The test asserts that the 200 pairs of databases have in total more than 100 contradicting documents, 50
+    // differing leaves and 100 documents in conflict.
     assert!(rt;
         found[0] > 100 && found[1] > 50 && found[2] > 100,
         "{found:?}"

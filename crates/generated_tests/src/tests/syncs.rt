@@ -1,6 +1,6 @@
 //! Tests that edit pairs of peers at random, and replicate each pair in both directions, by one thread and by the pool.
-//! After a replication in both directions, both peers must have the same documents. A second replication must then copy
-//! no document.
+//! After a replication in both directions, both peers must have the same documents. If the peers are not edited after a
+//! replication, a second replication in both directions must copy no document.
 use crate::tests::checks::holds;
 use crate::tests::feeds::id;
 use crate::tests::merges::below;
@@ -210,7 +210,7 @@ fn edit_d0(rt: &impl Abort, alloc: Global, rng: &mut ChaCha8Rng, peer: &mut Peer
     let _revised = peer.edit(&id, parent, false, &body);
 }
 
-/// Creates a peer that refuses d0.
+/// Creates a peer that refuses the document `d0`.
 fn refusing(rt: &impl Abort, alloc: Global) -> Peer<Rules> {
     let deny = "d0".to_string(alloc).expect(rt, "memory");
     Peer::new(alloc, 2, Rules { deny: Some(deny) })

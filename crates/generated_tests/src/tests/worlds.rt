@@ -1,5 +1,5 @@
-//! Compares the peers, the logs and the message bag (the messages in transit) of a world with the world's plain model,
-//! after random lists of steps.
+//! Compares two peers, their logs and the messages in transit with a plain model (`PlainWorld`), after random lists of
+//! steps.
 use crate::tests::checks::holds;
 use crate::tests::choices::{all_or_some, chosen};
 use crate::tests::feeds::{body, document_by_chance, id};
@@ -20,10 +20,10 @@ use rev_tree::SessionId;
 use std::alloc::Global;
 use std::process::Abort;
 
-/// The number of steps of a list.
+/// The number of steps in each random list of steps.
 const STEPS: usize = 80;
 
-/// The number of loads at the start of each list of steps.
+/// The number of steps at the start of each random list that load a document into the source.
 const LOADS: usize = 4;
 
 /// A generator of random steps. The generator's model takes each step that is generated.
@@ -46,7 +46,7 @@ fn moment(rt: &impl Abort, seconds: usize) -> Moment {
 }
 
 impl Dealer {
-    /// Creates a generator without steps.
+    /// Creates a generator of random steps that has not yet generated a step.
     fn new(alloc: Global, seed: u64) -> Dealer {
         Dealer {
             alloc,
@@ -67,8 +67,8 @@ impl Dealer {
         self.model.picked = all_or_some(&mut self.rng);
     }
 
-    /// Returns an index for a list of `length` items. The index is usually the last index of the list. The index is
-    /// sometimes random, and may then be out of range.
+    /// Returns the last position of a list with `length` items, or sometimes a random number below 5, which may be out
+    /// of range.
     fn place(&mut self, length: usize) -> usize {
         if below(&mut self.rng, 6) == 0 {
             below(&mut self.rng, 5)
@@ -451,7 +451,7 @@ fn compare_peers(
     compare_documents(rt, alloc, target, &model.target, &dealer.chain);
     compare_log(rt, source.source_log(alloc, &rep).ok(), &model.log.entries);
     holds(rt, source.db().life() == model.log.life, "the life");
-    // In a world, each change of the source's database is a local write.
+    // In this test, each write to the source's database is a local write.
     let writes = source.locals().len() as u64;
     holds(rt, writes == model.source.update_seq, "the local writes");
     compare_sessions(rt, alloc, target, &rep, model);
@@ -463,7 +463,8 @@ fn peer(alloc: Global, uuid: u128, deny: Option<String>) -> Peer<Rules> {
     Peer::new(alloc, uuid, Rules { deny })
 }
 
-/// Creates a world of two peers without documents. The world replicates selected documents or all documents.
+/// Creates a `World` (two peers and the messages between them) without documents and messages. A replication in the
+/// `World` copies the selected documents, or all documents if `chosen` is `None`.
 fn world(
     rt: &impl Abort,
     alloc: Global,
@@ -474,15 +475,16 @@ fn world(
     World::new(alloc, source, target, chosen).expect(rt, "two peers")
 }
 
-/// Performs a list of steps in a world, and asserts that the world agrees with the model.
+/// Performs a list of steps on two peers and their messages (`World`), and asserts that the `World` then agrees with
+/// the model.
 fn take(rt: &impl Abort, alloc: Global, world: &mut World<Rules>, steps: &[Step], dealer: &Dealer) {
     world.run(alloc, steps).expect(rt, "memory");
     holds(rt, world.bag_sizes() == dealer.model.sizes(), "the bag");
     compare_peers(rt, alloc, world.source(), world.target(), dealer);
 }
 
-/// Generates a list of steps, and performs the steps in a world. Returns the recorded sequence of the last entry in the
-/// model's source log, or 0 if the log is empty.
+/// Generates a list of steps, and performs the steps on two peers and their messages (`take`). Returns the recorded
+/// sequence of the last entry in the model's source log, or 0 if the log is empty.
 fn taken(rt: &impl Abort, alloc: Global, dealer: &mut Dealer, world: &mut World<Rules>) -> u64 {
     let steps = deal(rt, alloc, dealer);
     take(rt, alloc, world, &steps, dealer);
