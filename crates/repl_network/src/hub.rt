@@ -16,10 +16,11 @@ use std::alloc::{AllocError, Global};
 /// thread performs all replications, two for each peer other than the hub. For each direction, the caller gives a plan
 /// for each peer other than the hub, in order.
 ///
-/// If every two peers are consistent, they stay consistent, even if the call fails. Suppose that all plans select a
-/// document, no peer has refused this document, and the document's trees agreed and had complete histories before the
-/// call. If the call succeeds, all peers then have the same document, and the document's trees still agree and have
-/// complete histories.
+/// If every two peers are consistent, they stay consistent, even if the call fails. `sync_by_hub` selects a document if
+/// all plans select it, and no peer has refused it when the call returns. If every two peers are consistent, a
+/// successful call makes a selected document with agreeing, complete trees the same at all peers. After a successful
+/// call on consistent peers, the trees of a selected document still agree and have complete histories, if they did
+/// before.
 ///
 /// # Errors
 ///
