@@ -1,4 +1,4 @@
-//! Tests of databases, peers, worlds and the pool.
+//! Tests of databases, of peers and networks of peers, and of replications by one thread or by several threads.
 #![tactic(auto)]
 
 #[cfg(test)]
