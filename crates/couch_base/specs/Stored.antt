@@ -62,8 +62,8 @@ abbrev pub live_upto : List (Id × Kept) → ℕ → List (ℕ × ℕ) → List 
 live_upto docs b rows = filter (λ e. nat_le e.0 b) (live docs rows)
 
 -- The rows that a database's index has after a change of a document. If an index of n documents has at most 2 n + 1
--- rows, the database keeps all of its rows. If an index of n documents has more than 2 n + 1 rows, the database keeps
--- only the rows of the documents' latest changes.
+-- rows, the database keeps all rows. If an index of n documents has more than 2 n + 1 rows, the database keeps only the
+-- rows of the documents' latest changes.
 abbrev pub swept : List (Id × Kept) → List (ℕ × ℕ) → List (ℕ × ℕ)
 swept docs rows = if nat_lt (length docs) (length rows / 2) then live docs rows else rows
 

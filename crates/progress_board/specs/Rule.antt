@@ -13,8 +13,8 @@ abbrev pub seat_view : Bool → Bool → ℕ → List ℕ → List ℕ → SeatV
 seat_view deals works number reads settles =
     record { deals = deals; works = works; number = number; reads = reads; settles = settles }
 
--- The state of a board's dealer (the value that creates the board's seats) just before the dealer creates worker n's
--- seat. The board has k workers, and a seat is an access token for the board's counters.
+-- The state of a board's dealer (the value that creates the board's seats) after the dealer has created n workers'
+-- seats. The board has k workers, and a seat is an access token for the board's counters.
 abbrev pub dealer : ℕ → ℕ → SeatView
 dealer k n = seat_view true false n (replicate k 0) (replicate k 0)
 
@@ -41,7 +41,7 @@ added_settled v n =
     seat_view v.deals v.works v.number v.reads (slice_set v.settles v.number (slice_index v.settles v.number + n))
 
 -- A seat (an access token for a progress board) changes from v to w by loading the value n of worker i's read counter.
--- The seat's lower bound of worker i's read counter is at most n before the seat loads n, and is n after it. Before
+-- The seat's lower bound of worker i's read counter is at most n before the seat loads n, and is n afterwards. Before
 -- worker i's own seat loads the value n of worker i's read counter, its lower bound of this counter already is n.
 abbrev pub SeesRead : SeatView → ℕ → ℕ → SeatView → Type 0
 SeesRead v i n w =
@@ -49,10 +49,10 @@ SeesRead v i n w =
     × (slice_index v.reads i ≤ n) × (n ≤ most) × (v.works ≡ true → v.number ≡ i → n ≡ slice_index v.reads i)
 
 -- A seat (an access token for a progress board) changes from v to w by loading the value n of worker i's settled
--- counter. The seat's lower bound of worker i's settled counter is at most n before the seat loads n, and is n after
--- it. After a seat has loaded n from worker i's settled counter, its lower bound of worker i's read counter is at least
--- n. Before worker i's own seat loads the value n of worker i's settled counter, its lower bound of this counter
--- already is n.
+-- counter. The seat's lower bound of worker i's settled counter is at most n before the seat loads n, and is n
+-- afterwards. After a seat has loaded n from worker i's settled counter, its lower bound of worker i's read counter is
+-- at least n. Before worker i's own seat loads the value n of worker i's settled counter, its lower bound of this
+-- counter already is n.
 abbrev pub SeesSettled : SeatView → ℕ → ℕ → SeatView → Type 0
 SeesSettled v i n w =
     (w ≡ seat_view v.deals v.works v.number (slice_set v.reads i (max (slice_index v.reads i) n))

@@ -52,8 +52,8 @@ MadeAgree peers =
     (among : EditValue → Bool) → HaveNoCollision among → (id : Id) → AllMadeBy among peers id
     → AllAgree peers id × AllWhole peers id
 
--- If a document with another id than `id` was made only by edits from a set (`AllMadeBy`), this stays true after the
--- call.
+-- If a document with another id than `id` was made only by edits from a set (`AllMadeBy`), this stays true after
+-- document `id` is stored.
 abbrev pub StaysMadeExcept : Id → List PeerValue → List PeerValue → Type 0
 StaysMadeExcept id peers peers' =
     (among : EditValue → Bool) (other : Id) → other ≢ id → AllMadeBy among peers other → AllMadeBy among peers' other

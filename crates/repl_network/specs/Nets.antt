@@ -85,7 +85,7 @@ abbrev pub Leads : List Hop → ℕ → ℕ → Type 0
 Leads [] from to = from ≡ to
 Leads (h ∷ hops) from to = Leads hops from to ⊎ (from ≡ h.from) × Leads hops h.to to
 
--- In a network of `count` peers, a chain of the hops `hops` leads from every peer to every other peer.
+-- In a network of `count` peers, chains of hops in the list `hops` lead from every peer to every other peer.
 abbrev pub LeadsEverywhere : List Hop → ℕ → Type 0
 LeadsEverywhere hops count = (m n : ℕ) → m < count → n < count → Leads hops m n
 

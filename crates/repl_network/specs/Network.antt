@@ -43,12 +43,13 @@ pub record IsCopyAt {K : Type 0} (peers : K → Option PeerValue) (n : K) (b : B
 abbrev pub AreCopiesAt : {K : Type 0} → (K → BackupValue → Type 0) → K → List BackupValue → Type 0
 AreCopiesAt copy n backups = (b : BackupValue) → Among b backups → copy n b
 
--- The source p and each of its backups are consistent with the target q. The key of the source p in the network is n.
+-- For the selection `chosen`, the source p and each of its backups are consistent with the target q. The key of the
+-- source p in the network is n.
 abbrev pub AreTiedAt : {K : Type 0} → (K → BackupValue → Type 0) → K → PeerValue → PeerValue → Choice → Type 0
 AreTiedAt copy n p q chosen = (backups : List BackupValue) → AreCopiesAt copy n backups → IsTiedWith backups p q chosen
 
--- For every selection of documents, every peer and every backup of the peer are consistent, as a source, with every
--- other peer as a target. No two peers of the network have the same UUID.
+-- For every selection of documents, each peer and each backup of the peer, as a source, is consistent with each other
+-- peer, as a target. No two peers of the network have the same UUID.
 pub record AreConsistent {K : Type 0} (peers : K → Option PeerValue) (copy : K → BackupValue → Type 0) : Type 0 where
   pub apart : (m n : K) (p q : PeerValue) → peers m ≡ Some p → peers n ≡ Some q → p.db.uuid ≡ q.db.uuid → m ≡ n
   pub tied : (m n : K) (p q : PeerValue) → peers m ≡ Some p → peers n ≡ Some q → m ≢ n → (chosen : Choice)

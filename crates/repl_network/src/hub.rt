@@ -16,11 +16,10 @@ use std::alloc::{AllocError, Global};
 /// thread performs all replications, two for each peer other than the hub. For each direction, the caller gives a plan
 /// for each peer other than the hub, in order.
 ///
-/// If every two peers are consistent, they stay consistent, even if the call fails. `sync_by_hub` selects a document if
-/// all plans select it, and no peer has refused it when the call returns. If every two peers are consistent, a
-/// successful call makes a selected document with agreeing, complete trees the same at all peers. After a successful
-/// call on consistent peers, the trees of a selected document still agree and have complete histories, if they did
-/// before.
+/// If every two peers are consistent, they stay consistent, even if the call fails. A document is *selected* if all
+/// plans in both directions select it, and no peer has refused it when the call returns. A successful call on
+/// consistent peers makes a selected document with agreeing, complete trees the same at all peers. A successful call on
+/// consistent peers keeps the trees of a selected document in agreement and with complete histories.
 ///
 /// # Errors
 ///

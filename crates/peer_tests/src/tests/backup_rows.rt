@@ -1,7 +1,7 @@
-//! Tests of backups. Each test is a table of calls with expected results. In these tests, a source is restored from a
-//! backup, which changes the source's life (a number). After a source is restored, calls pass windows and log entries
-//! from another life of the source than the session or the peer expects. The expected results of the calls assume that
-//! no allocation fails.
+//! Tests of backups. Each test is a table of calls with expected results. A restore of a source from a backup changes
+//! the source's life (a number). The test `other_life_refused` passes windows and log entries from one life of the
+//! source to sessions and peers that expect another life. The expected results of the calls assume that no allocation
+//! fails.
 use crate::tests::peers::{Call, Lists, Rep, Rows, expect};
 use rev_tree::SessionId;
 

@@ -1,4 +1,4 @@
-//! Calls that create selections of documents, and replicate the selected documents from a source to a target.
+//! Calls that create and read selections of documents, and replicate the selected documents from a source to a target.
 use crate::tests::peers::{agreed, found_text, load, source_log, target_log};
 use crate::tests::plans::plan;
 use crate::tests::records::{fault_text, report_text};

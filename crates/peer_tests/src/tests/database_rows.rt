@@ -2,7 +2,7 @@
 //! which assume that no allocation fails.
 use crate::tests::databases::{Bench, Call, Rows, expect};
 
-/// The index of a test's first database, to which most calls write documents.
+/// The index of a test's first database, which most calls read or change.
 const A: usize = 0;
 
 /// The index of a test's second database, which requests the leaves that it lacks.

@@ -289,7 +289,8 @@ fn progress_shown(rt: HostRuntime) {
     assert_eq!(rt; board.read(&mut viewer), (2, 2));
 }
 
-// The test detects a pool that updates the board only at the end of a run, because a viewer reads the board earlier.
+// The test detects a pool that updates the board only at the end of a run, because a viewer reads the board while the
+// writer is blocked.
 #[test]
 fn progress_seen_beside_a_held_writer(rt: HostRuntime) {
     let Some((board, seats, viewer)) = board_for(rt.alloc(), 2) else {

@@ -1,5 +1,5 @@
-//! Tests of replications by several threads, in which a gate (a callback at each stage of a window) stops or blocks a
-//! worker.
+//! Tests of replications with one or several workers (threads), in which a gate (a callback at each stage of a window)
+//! stops or blocks a worker.
 use crate::tests::peers::Rep;
 use crate::tests::pool_rows::{CARRIED, DOCUMENTS, OPEN_PEERS};
 use crate::tests::pools::{Bench, Call, How, Rows};

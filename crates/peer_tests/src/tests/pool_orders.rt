@@ -1,4 +1,4 @@
-//! Tests of replications by several threads with two gates (callbacks that workers call at each stage of a window). The
+//! Tests of replications with two gates (callbacks that one or several workers call at each stage of a window). The
 //! callback `Counts` counts how often workers call it. The callback `Orders` blocks a worker at a stage of a window
 //! until another worker has reached a stage that a table names.
 use crate::tests::pool_gates::kind_of;

@@ -242,9 +242,9 @@ impl Drawn {
         self.ran_out.store(true, Ordering::SeqCst);
     }
 
-    /// Returns the order in which workers were chosen to run, and whether some wait took too long. A wait took too long
-    /// if blocked workers slept `SURE_NAPS` times waiting for another worker, or if one worker checked `LOOKS` times
-    /// for its release.
+    /// Returns the order in which workers were chosen to run, and whether a wait took too long. A wait took too long if
+    /// blocked workers slept `SURE_NAPS` times waiting for another worker, or if one worker checked `LOOKS` times for
+    /// its release.
     fn end(self) -> (u64, bool) {
         let turns = self.turns.into_inner();
         (turns.order, turns.ran_out || self.ran_out.into_inner())

@@ -1,4 +1,4 @@
-//! Calls on peers that several threads replicate, and the test fixture that holds the peers of a test.
+//! Calls on peers that one or several threads replicate, and the test fixture that holds the peers of a test.
 ghost use Rattle.std.specs.Prelude.{◌≡◌, vec_len};
 ghost use Rattle.std.specs.List.{All};
 ghost use Rattle.pool_workers.specs.Boards.{WorksAt};
