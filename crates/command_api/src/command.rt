@@ -40,8 +40,8 @@ pub trait Command<L>: Sized + Drop {
         ensures { needed (option_map asked result) ≡ asked_in (seen line) };
 
     /// Runs the command, and writes its output into the buffer. The relation `answers` allows the result of the
-    /// command. Even if `answers` does not allow `Memory`, every command may fail with `Memory`. The command then has
-    /// no effect, or has the effect of a success whose output could not be stored.
+    /// command. Even if `answers` does not allow `Memory`, every command may fail with `Memory`. A command that fails
+    /// with `Memory` has no effect, or has the effect of a success whose output could not be stored.
     fn serve<H: Threads + Wait + Sync>(
         &self,
         rt: &H,

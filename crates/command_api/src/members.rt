@@ -1,4 +1,4 @@
-//! Reads members of a line's JSON object. Each member must have a given type.
+//! Reads members of a line's JSON object, each of one type, such as a string, a Boolean, an integer or a UUID.
 ghost use Rattle.std.specs.Prelude.{◌≡◌, map, option_map};
 ghost use Rattle.std.specs.List.{list_all, list_any};
 ghost use Rattle.std.specs.Str.{bytes_eq};

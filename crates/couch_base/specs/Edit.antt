@@ -68,7 +68,8 @@ needs_id (Err faults.Conflict) = false
 needs_id (Err faults.GenerationFull) = false
 needs_id answer = true
 
--- The result of an edit is the expected result, or is `Memory` if the expected result depends on the new revision.
+-- The result of an edit is the expected result or `Memory`. An edit returns `Memory` only if the expected result is not
+-- `NoSuchDocument`, `Conflict` or `GenerationFull`.
 abbrev pub EditGives : {A : Type 0} → Result A BaseFault → Result A BaseFault → Type 0
 EditGives (Err faults.Memory) expected = IsTrue (needs_id expected)
 EditGives result expected = result ≡ expected

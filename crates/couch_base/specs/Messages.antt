@@ -59,7 +59,7 @@ want_first id [] others = others
 want_first id (r ∷ revs) others = record { id = id; revs = r ∷ revs } ∷ others
 
 -- The requests for missing leaves: one request for each feed row that has missing leaves, in the order of the rows. A
--- leaf of a row is missing if the given documents' tree of the row's document does not contain the leaf.
+-- leaf of a feed row is missing if the tree of the row's document, among the documents `ds`, does not contain the leaf.
 abbrev pub wanted : List DocumentValue → List RowValue → List WantedValue
 wanted ds [] = []
 wanted ds (r ∷ rows) = want_first r.id (missing (tree_of ds r.id) r.leaves) (wanted ds rows)

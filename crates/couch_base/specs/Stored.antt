@@ -1,6 +1,7 @@
 -- Defines the stored form of a database: a table of documents by id, and an index of their positions by sequence. Each
 -- change of a document appends a row to the index of the document's database. A row of a database's index is live if
--- the row's document has no later change. The live rows of a database's index form the changes feed.
+-- the row's document has no later change. The changes feed consists of the index rows whose documents have no later
+-- change.
 use Rattle.std.specs.Prelude.{◌≡◌, ℕ, ◌+◌, ◌*◌, ◌/◌, ◌<◌, ◌≤◌, ◌==◌, nat_lt, nat_le, Bool, false, not, List, [], ◌∷◌, cond, if◌then◌else◌, map, filter, length, slice_get, unwrap_or, Option, Some, None, IfSome, refl}
 use Rattle.std.specs.Coded.{Coded, code_by, coded×, coded_ℕ, coded_list}
 use Rattle.std.specs.Option.{option_map, option_map_or}
@@ -47,24 +48,26 @@ is_live docs e = option_map_or (λ (d : Id × Kept). d.1.seq == e.0) (slice_get 
 abbrev pub live : List (Id × Kept) → List (ℕ × ℕ) → List (ℕ × ℕ)
 live docs rows = filter (is_live docs) rows
 
--- The live rows of the index, with the ids of documents instead of their positions.
+-- The changes feed of a database: each index row that has the latest change of its document, with the document's id
+-- instead of its position.
 abbrev pub feed_of : List (Id × Kept) → List (ℕ × ℕ) → List (ℕ × Id)
 feed_of docs rows = named (keys_of docs) (live docs rows)
 
--- The rows of a database's index with sequences above a.
+-- The rows of a database's index whose sequences are greater than the number a.
 abbrev pub above : ℕ → List (ℕ × ℕ) → List (ℕ × ℕ)
 above a rows = filter (λ e. nat_lt a e.0) rows
 
--- The live rows of a database's index with sequences of at most b.
+-- The rows of a database's index for the documents' latest changes, up to the sequence b.
 abbrev pub live_upto : List (Id × Kept) → ℕ → List (ℕ × ℕ) → List (ℕ × ℕ)
 live_upto docs b rows = filter (λ e. nat_le e.0 b) (live docs rows)
 
--- The rows that the index of a database with n documents has after a change. The database keeps all rows of the index
--- if the index has at most 2 n + 1 rows, otherwise only the live rows.
+-- The rows that a database's index has after a change of a document. If an index of n documents has at most 2 n + 1
+-- rows, the database keeps all rows. If an index of n documents has more than 2 n + 1 rows, the database keeps only the
+-- rows of the documents' latest changes.
 abbrev pub swept : List (Id × Kept) → List (ℕ × ℕ) → List (ℕ × ℕ)
 swept docs rows = if nat_lt (length docs) (length rows / 2) then live docs rows else rows
 
--- Each document position in the index of a database is below n.
+-- Each document position in a database's index is below the number n of documents.
 abbrev pub ArePlaces : ℕ → List (ℕ × ℕ) → Type 0
 ArePlaces n index = (e : ℕ × ℕ) → Among e index → e.1 < n
 
@@ -117,7 +120,7 @@ pub record IsTable (g : Id → Option Kept) (index : List (ℕ × Id)) (hi : ℕ
   pub indexed : (id : Id) (k : Kept) → g id ≡ Some k → at_seq k.seq index ≡ Some id
   pub trees : (id : Id) (k : Kept) → g id ≡ Some k → IsDocumentTree k.tree
 
--- Each sequence in the index of a database is below s.
+-- Each sequence in a database's index is less than the number s.
 abbrev pub AllBelow : {X : Type 0} → ℕ → List (ℕ × X) → Type 0
 AllBelow {X} s index = (e : ℕ × X) → Among e index → e.0 < s
 
@@ -126,7 +129,8 @@ abbrev pub InOrder : List (ℕ × ℕ) → Type 0
 InOrder [] = Unit {0}
 InOrder (e ∷ rows) = ((x : ℕ × ℕ) → Among x rows → e.0 < x.0) × InOrder rows
 
--- The rows of a database's index are valid: document positions are below n, and sequences rise and are below s.
+-- The rows of a database's index are valid: positions are below the number n of documents, and sequences rise and are
+-- below a bound s.
 pub record AreRows (n s : ℕ) (rows : List (ℕ × ℕ)) : Type 0 where
   pub places : ArePlaces n rows
   pub below : AllBelow s rows
@@ -136,7 +140,7 @@ pub record AreRows (n s : ℕ) (rows : List (ℕ × ℕ)) : Type 0 where
 abbrev pub AreFew : ℕ → List (ℕ × ℕ) → Type 0
 AreFew n rows = length rows ≤ 2 * n + 1
 
--- The invariant of table t.
+-- The invariant of table t, which has a database's documents and the index of their changes.
 pub record IsKept (t : TableValue) : Type 0 where
   pub table : IsTable (found t.entries) (feed_of t.entries t.rows) t.last
   pub rows : AreRows (length t.entries) (t.last + 1) t.rows

@@ -15,8 +15,8 @@ pub struct Wanted {
     revs: Revs,
 }
 
-// This type has no `#[derive(Drop)]`, because each crate that owns such a value would have to prove the derived code
-// (docs/DECISIONS.md, "Letting values go").
+// `Wanted` has a handwritten `drop`, because the code of `#[derive(Drop)]` would be proved again in each crate that
+// owns a `Wanted` (docs/DECISIONS.md, "Letting values go").
 impl Drop for Wanted {
     fn drop(self) {
         let Wanted { id: _, revs: _ } = self;
@@ -73,8 +73,8 @@ pub struct Asked {
     docs: Vec<Wanted>,
 }
 
-// This type has no `#[derive(Drop)]`, because each crate that owns such a value would have to prove the derived code
-// (docs/DECISIONS.md, "Letting values go").
+// `Asked` has a handwritten `drop`, because the code of `#[derive(Drop)]` would be proved again in each crate that owns
+// an `Asked` (docs/DECISIONS.md, "Letting values go").
 impl Drop for Asked {
     fn drop(self) {
         let Asked {

@@ -120,8 +120,8 @@ impl Database {
         Ok(())
     }
 
-    /// Fetches the requested revisions of one document. The call appends the fetched documents to one list, and the
-    /// requested revisions that the document's tree does not have to another list.
+    /// Fetches the requested revisions of one document. `fetch` appends the fetched documents to `docs`. If the tree of
+    /// the requested document lacks a requested revision, `fetch` appends this revision to `gone`.
     fn fetch(
         &self,
         alloc: Global,

@@ -26,8 +26,9 @@ pub enum Put {
 /// Why a call failed.
 #[derive(Clone, Copy, Debug, Error)]
 pub enum BaseFault {
-    /// A revision has one parent in the given ancestry and a different parent in the document's tree. The variant names
-    /// the newest such revision (`child`), its parent in the tree (`known`), and its parent in the ancestry (`given`).
+    /// A revision has one parent in the given ancestry and a different parent in the document's tree. The variant's
+    /// `child` is the newest revision with two different parents, `known` its parent in the tree, and `given` its
+    /// parent in the ancestry.
     #[error("a revision has another parent in the document's tree")]
     Contradiction { child: Rev, known: Rev, given: Rev },
     /// The update sequence has reached the maximum, 9,007,199,254,740,991.

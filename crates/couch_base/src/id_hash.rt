@@ -1,9 +1,10 @@
 //! The hash function of a database's table of documents.
 //!
 //! The document ids come from untrusted sources. If the hash function had a fixed initial state, anyone could choose
-//! document ids whose hashes collide, which makes lookups slow. Hashing a document id therefore starts with the
-//! database's UUID. The UUID protects against hash collisions only if the author of the ids does not know the UUID. A
-//! UUID that the program generates depends only on the program's seed, which is 0 by default.
+//! document ids whose hashes collide, which makes lookups slow. Each hasher therefore reads the database's UUID before
+//! a document id, so that the hash of a document id depends on the UUID. The UUID protects against hash collisions only
+//! if the author of the ids does not know the UUID. A UUID that the program generates depends only on the program's
+//! seed, which is 0 by default.
 ghost use Rattle.std.specs.Prelude.{◌≡◌};
 ghost use Rattle.std.specs.Hash.{le_bytes};
 ghost use Rattle.std.specs.Hash.FoldHasher.{initial, write};

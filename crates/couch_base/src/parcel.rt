@@ -26,8 +26,8 @@ pub struct Parcel {
     made: Vec<Option<PreparedTree>>,
 }
 
-// This type has no `#[derive(Drop)]`, because each crate that owns such a value would have to prove the derived code
-// (docs/DECISIONS.md, "Letting values go").
+// `Parcel` has a handwritten `drop`, because the code of `#[derive(Drop)]` would be proved again in each crate that
+// owns a `Parcel` (docs/DECISIONS.md, "Letting values go").
 impl Drop for Parcel {
     fn drop(self) {
         let Parcel {
@@ -116,7 +116,7 @@ impl Parcel {
     }
 
     /// Splits the parcel into request, documents, gone revisions and prepared trees. The prepared trees are in the
-    /// order of the documents. The list of trees is empty if the parcel was not prepared.
+    /// order of the documents. The list of prepared trees is empty if `prepare` was not called for the parcel.
     pub fn into_parts(
         self,
     ) -> (
@@ -139,8 +139,9 @@ impl Parcel {
     }
 
     /// Builds the trees that the parcel's documents would have if the documents were new at the target. The origin of
-    /// each tree is a session and the sequence of the document's row. Preparing a parcel does not change the parcel's
-    /// value in contracts. The call `Database::put_prepared` can store the prepared trees.
+    /// each tree is a session and the sequence of the document's row. In contracts, a parcel is a request, documents
+    /// and gone revisions, without prepared trees, so `prepare` does not change the parcel (clause `same`).
+    /// `Database::put_prepared` can store the prepared trees.
     pub fn prepare(
         &mut self,
         alloc: Global,
@@ -165,9 +166,9 @@ impl Parcel {
     }
 }
 
-/// Builds the trees that the given documents would have if the documents were new at the target. The call searches the
-/// window's rows in order. If the search does not find a document's row, the call builds no tree for this document and
-/// the documents after it.
+/// Builds the trees that the given documents would have if the documents were new at the target. For each document,
+/// `make_all` searches the window's rows from the previous document's row on. If `make_all` does not find a document's
+/// row, it builds no tree for this document and the documents after it.
 fn make_all(
     alloc: Global,
     session: SessionId,

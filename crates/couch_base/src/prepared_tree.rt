@@ -1,4 +1,4 @@
-//! Prepared trees of new documents.
+//! Revision trees of new documents that are built before the documents are stored at the target.
 ghost use Rattle.std.specs.Prelude.{◌≡◌, IfOk};
 ghost use Rattle.couch_base.specs.Readied.{IsMadeOf};
 
@@ -8,7 +8,7 @@ use rev_tree::{Origin, SessionId, Tree};
 use std::alloc::{AllocError, Global};
 
 /// The id of a document, and the tree that the document would have if it were new at the target. The origin of the
-/// prepared tree is a session and a sequence of the session's feed.
+/// tree's revisions (the write that adds them) is a session and a sequence of the session's feed.
 #[derive(Drop)]
 pub struct PreparedTree {
     pub(crate) key: DocId,
@@ -18,7 +18,8 @@ pub struct PreparedTree {
 }
 
 impl PreparedTree {
-    /// Builds the tree of a new document. The origin of the tree is a session and a sequence of the session's feed.
+    /// Builds the tree of a new document. The origin of the tree's revisions (the write that adds them) is a session
+    /// and a sequence of the session's feed.
     pub(crate) fn of(
         alloc: Global,
         doc: &Doc,

@@ -14,8 +14,8 @@ pub struct Row {
     leaves: Revs,
 }
 
-// This type has no `#[derive(Drop)]`, because each crate that owns such a value would have to prove the derived code
-// (docs/DECISIONS.md, "Letting values go").
+// `Row` has a handwritten `drop`, because the code of `#[derive(Drop)]` would be proved again in each crate that owns a
+// `Row` (docs/DECISIONS.md, "Letting values go").
 impl Drop for Row {
     fn drop(self) {
         let Row {

@@ -54,18 +54,18 @@ Says words o = AreOptions (λ id. first_of id (matches_of options words)) (λ id
 
 -- ---- arguments without settings
 
--- The reason why no settings result from the texts of the options. If the reason is `NoNumber`, the texts of the
--- options are not the values of any settings. If the reason is `File`, the command line has a positional argument. If
--- the reason is `Memory`, an allocation failed.
+-- The reason why the program cannot compute its settings from the texts of the options. If the reason is `NoNumber`,
+-- there are no settings that have the values in the texts of the options. If the reason is `File`, the command line has
+-- a positional argument. If the reason is `Memory`, an allocation failed.
 abbrev pub SetNothing : (List ℕ → Option (List ℕ)) → (List ℕ → Option (List ℕ)) → NoSettings → Type 0
 SetNothing text number (Words error) = ⊥
 SetNothing text number NoNumber = (s : Settings) → AreSettings text number s → ⊥
 SetNothing text number File = text (codes "file") ≡ None → ⊥
 SetNothing text number Memory = Unit {0}
 
--- The reason why no options result from the arguments `words`. If the reason is `Words`, `clap` returned an error. If
--- the reason is `NoNumber`, the arguments are not the values of any options. If the reason is `File`, the command line
--- has a positional argument. If the reason is `Memory`, an allocation failed.
+-- The reason why the program cannot compute its options from the arguments `words`. If the reason is `Words`, `clap`
+-- returned an error. If the reason is `NoNumber`, there are no `Options` that have the values in the arguments. If the
+-- reason is `File`, the command line has a positional argument. If the reason is `Memory`, an allocation failed.
 abbrev pub Refuses : List (List ℕ) → NoSettings → Type 0
 Refuses words (Words error) = HasKind (fault_of options words) error
 Refuses words NoNumber = (o : Options) → Says words o → ⊥

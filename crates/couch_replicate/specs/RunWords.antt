@@ -16,7 +16,7 @@ use Rattle.couch_replicate.specs.declared.options.Options.{Options}
 use Rattle.couch_replicate.specs.declared.run.Ended.{Ended}
 use Rattle.couch_replicate.specs.declared.run.Ended.TheVariants.{NotRun, Ran}
 
--- A statement about the output of a script that runs with the settings of `program`. After an error the program's
+-- States what the program writes when it runs a script with the settings of `program`. After an error the program's
 -- output is a prefix of the script's complete output. After the errors `Read` and `Memory`, the program's output ends
 -- between the outputs of two lines. After the error `Read`, the program's output is the output of all lines that were
 -- read. The argument `given` of `Answered` is a predicate of the script's bytes, and `taken` is a predicate of the

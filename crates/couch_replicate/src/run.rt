@@ -21,7 +21,8 @@ pub enum Ended {
     Ran(Result<bool, ScriptFault>),
 }
 
-/// Parses the arguments, and runs the script that the reader returns. The first argument is the program's name.
+/// Parses the arguments `words`, runs the script in the bytes that `reader` returns, and writes the output to `writer`.
+/// The first argument is the program's name.
 ///
 /// The databases are not freed, because the program ends after this call.
 pub fn run_words<'a, H, R: ScriptRead, W: ScriptWrite>(

@@ -1,4 +1,5 @@
-//! Tests of databases, peers, worlds and the pool.
+//! Tests of databases, of peers and networks of peers, of two peers with messages in transit, and of replications by
+//! one thread or by several threads.
 #![tactic(auto)]
 
 #[cfg(test)]

@@ -3,8 +3,8 @@
 //!
 //! A bench, which is a test fixture, holds the databases or peers of a test, and the values that calls on these
 //! databases or peers returned. Each kind of call is a variant of an enum. The code that performs the calls of one kind
-//! is proved once, and all tests with calls of this kind use the code. A test is only a table of calls, and needs no
-//! further proof.
+//! is proved once, and all tests with calls of this kind use the code. A new test is only a new table of calls, so it
+//! needs no new proof.
 
 // Calls on databases.
 mod database_rows;
@@ -52,7 +52,7 @@ mod nets;
 mod survey_rows;
 mod surveys;
 
-// Worlds.
+// Two peers and the messages in transit between them (`World`).
 mod world_rows;
 mod worlds;
 

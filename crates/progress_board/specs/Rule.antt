@@ -13,26 +13,25 @@ abbrev pub seat_view : Bool → Bool → ℕ → List ℕ → List ℕ → SeatV
 seat_view deals works number reads settles =
     record { deals = deals; works = works; number = number; reads = reads; settles = settles }
 
--- The facts that the dealer of a progress board (the creator of the board's seats) knows about the board's counters
--- before it creates worker n's seat. The board has k workers, and a seat is an access token for the board's counters.
+-- The state of a board's dealer (the value that creates the board's seats) after the dealer has created n workers'
+-- seats. The board has k workers, and a seat is an access token for the board's counters.
 abbrev pub dealer : ℕ → ℕ → SeatView
 dealer k n = seat_view true false n (replicate k 0) (replicate k 0)
 
--- The facts that the dealer of a progress board (the creator of the board's seats) knows after it has created a
--- worker's seat.
+-- The state of a board's dealer (the value that creates the board's seats) just after the dealer has created a worker's
+-- seat.
 abbrev pub dealt : SeatView → SeatView
 dealt v = seat_view v.deals v.works (v.number + 1) v.reads v.settles
 
--- The facts that a new worker's seat (an access token for a progress board) knows about the board's counters.
+-- The state of a new seat (an access token for a progress board) of a worker: the lower bound of each counter is 0.
 abbrev pub hired : SeatView → SeatView
 hired v = seat_view false true v.number (replicate (length v.reads) 0) (replicate (length v.reads) 0)
 
--- The facts that a new viewer's seat (an access token for a progress board) knows about the board's counters.
+-- The state of a new seat (an access token for a progress board) of a viewer: the lower bound of each counter is 0.
 abbrev pub viewer : SeatView → SeatView
 viewer v = seat_view false false 0 (replicate (length v.reads) 0) (replicate (length v.reads) 0)
 
--- The facts that a worker's seat (an access token for a progress board) knows after the worker has added n to its read
--- counter.
+-- The state of a worker's seat (an access token for a progress board) after the worker has added n to its read counter.
 abbrev pub added_read : SeatView → ℕ → SeatView
 added_read v n =
     seat_view v.deals v.works v.number (slice_set v.reads v.number (slice_index v.reads v.number + n)) v.settles
@@ -41,29 +40,27 @@ abbrev pub added_settled : SeatView → ℕ → SeatView
 added_settled v n =
     seat_view v.deals v.works v.number v.reads (slice_set v.settles v.number (slice_index v.settles v.number + n))
 
--- A seat (an access token for a progress board) loads the value n from worker i's read counter. The views v and w are
--- the lower bounds of all counters that the seat knows before and after this load. Before the seat loads n, the lower
--- bound that the seat knows for worker i's read counter is at most n. After the seat has loaded n, the lower bound that
--- the seat knows for worker i's read counter is n. If the seat is worker i's own seat, the lower bound of worker i's
--- read counter is n before the load, too.
+-- A seat (an access token for a progress board) changes from v to w by loading the value n of worker i's read counter.
+-- The seat's lower bound of worker i's read counter is at most n before the seat loads n, and is n afterwards. Before
+-- worker i's own seat loads the value n of worker i's read counter, its lower bound of this counter already is n.
 abbrev pub SeesRead : SeatView → ℕ → ℕ → SeatView → Type 0
 SeesRead v i n w =
     (w ≡ seat_view v.deals v.works v.number (slice_set v.reads i n) v.settles)
     × (slice_index v.reads i ≤ n) × (n ≤ most) × (v.works ≡ true → v.number ≡ i → n ≡ slice_index v.reads i)
 
--- A seat (an access token for a progress board) loads the value n from worker i's settled counter. The views v and w
--- are the lower bounds of all counters that the seat knows before and after this load. Before the seat loads n, the
--- lower bound that the seat knows for worker i's settled counter is at most n. After the seat has loaded n, the lower
--- bound that the seat knows for worker i's settled counter is n. After the seat has loaded n, the lower bound that the
--- seat knows for worker i's read counter is at least n. If the seat is worker i's own seat, the lower bound of worker
--- i's settled counter is n before the load, too.
+-- A seat (an access token for a progress board) changes from v to w by loading the value n of worker i's settled
+-- counter. The seat's lower bound of worker i's settled counter is at most n before the seat loads n, and is n
+-- afterwards. After a seat has loaded n from worker i's settled counter, its lower bound of worker i's read counter is
+-- at least n. Before worker i's own seat loads the value n of worker i's settled counter, its lower bound of this
+-- counter already is n.
 abbrev pub SeesSettled : SeatView → ℕ → ℕ → SeatView → Type 0
 SeesSettled v i n w =
     (w ≡ seat_view v.deals v.works v.number (slice_set v.reads i (max (slice_index v.reads i) n))
     (slice_set v.settles i n))
     × (slice_index v.settles i ≤ n) × (n ≤ most) × (v.works ≡ true → v.number ≡ i → n ≡ slice_index v.settles i)
 
--- The facts that a seat (an access token for a progress board) knows about the board's counters are true.
+-- What the seat v (an access token for a progress board) stores about the values `words` of the board's counters is
+-- true.
 pub record Fits (k : ℕ) (words : List ℕ) (v : SeatView) : Type 0 where
   pub read_size : length v.reads ≡ k
   pub settle_size : length v.settles ≡ k
@@ -80,10 +77,10 @@ pub record Fits (k : ℕ) (words : List ℕ) (v : SeatView) : Type 0 where
 abbrev pub InOrder : ℕ → List ℕ → Type 0
 InOrder k words = (j : ℕ) → j < k → (slice_index words (k + j) ≤ slice_index words j) × (slice_index words j ≤ most)
 
--- The invariant of a progress board. No worker's settled counter exceeds the worker's read counter. The facts that each
--- seat (an access token for the board) knows about the counters are true. The numbers of the workers' seats are
--- distinct, and are less than the number that the dealer (the creator of the seats) gives next. A board has at most one
--- dealer.
+-- The invariant of a progress board. No worker's settled counter exceeds the worker's read counter. What each seat (an
+-- access token for the board) stores about the counters is true. The numbers of the workers' seats are distinct, and
+-- are less than the number that the dealer (the creator of the seats) gives next. A board has at most one dealer (the
+-- value that creates the board's seats).
 pub record Kept (k : ℕ) (words : List ℕ) (views : List SeatView) : Type 0 where
   pub size : length words ≡ k + k
   pub order : InOrder k words

@@ -13,7 +13,7 @@ use Rattle.progress_board.specs.Rule.{most}
 abbrev pub CameWith : Board → BoardSeat → Type 0
 CameWith b s = (s.place.table_id ≡ b.table.shared.table_id) × (length s.place.me.0.reads ≡ b.workers)
 
--- ---- the sums of the counters that a seat has loaded
+-- ---- the sums of a seat's lower bounds
 
 abbrev pub seen_read : BoardSeat → ℕ
 seen_read s = sum s.place.me.0.reads
@@ -21,9 +21,9 @@ seen_read s = sum s.place.me.0.reads
 abbrev pub seen_settled : BoardSeat → ℕ
 seen_settled s = sum s.place.me.0.settles
 
--- A view has a lower bound for each counter of a progress board. The lower bounds in a seat's view come from the values
--- that the seat (an access token for the board) has loaded or stored. For each counter, the lower bound in the view v
--- is at most the lower bound in the view w.
+-- The state of a seat (an access token for a progress board) has a lower bound of each counter of the board. The lower
+-- bounds in a seat come from the counters' values that the seat has loaded or stored. For each counter, the lower bound
+-- in the seat state v is at most the lower bound in the seat state w.
 abbrev pub IsLater : SeatView → SeatView → Type 0
 IsLater v w =
     ((j : ℕ) → slice_index v.reads j ≤ slice_index w.reads j)
@@ -63,8 +63,8 @@ new_fault workers viewers = if are_seats workers viewers then faults.Memory else
 
 -- ---- new seats
 
--- The seat s is seat number i of a new table that has the counters of k workers. Seat number i belongs to worker i if i
--- < n, else to a viewer.
+-- The seat s (an access token) is the new seat number i for the table `table`, which has the counters of k workers. If
+-- i is less than the number n of workers' seats, seat number i is worker i's, and otherwise a viewer's.
 abbrev pub IsSeat : TableId → ℕ → ℕ → ℕ → BoardSeat → Type 0
 IsSeat table k n i s =
     (s.place.table_id ≡ table) × (s.works ≡ nat_lt i n) × (i < n → s.number ≡ i) × (s.read ≡ 0) × (s.settled ≡ 0)

@@ -35,9 +35,10 @@ impl Board {
 
     /// Loads all counters, and returns two totals: the sum of the settled counters, and the sum of the read counters.
     ///
-    /// The settled total is at most the read total. Neither total is less than in any earlier call with this seat. If
-    /// the seat is a worker's, the totals include all additions that this worker has made. The call does not block and
-    /// does not allocate. The seat must have been created together with this board.
+    /// The settled total is at most the read total. In repeated calls of `read` with the same seat, neither the settled
+    /// total nor the read total decreases. If the seat is a worker's, the totals include all additions that this worker
+    /// has made. The call does not block and does not allocate. The seat must have been created together with this
+    /// board.
     pub fn read(&self, seat: &mut BoardSeat) -> (u64, u64)
         requires came { CameWith self.now seat.old }
         ensures came { CameWith self.now seat.new }

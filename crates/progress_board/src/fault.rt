@@ -17,7 +17,7 @@ pub enum BoardFault {
     /// The worker's read counter would exceed 2^53 - 1.
     #[error("the worker's count is full")]
     BoardFull,
-    /// The worker would have settled more than it has read.
+    /// The worker's settled counter would exceed the worker's read counter.
     #[error("more would be settled than was read")]
     AheadOfRead,
     /// An allocation failed.

@@ -2,8 +2,8 @@
 //! settled, and viewers read the totals.
 //!
 //! A worker changes only its own two counters. The totals that one seat reads never decrease, and count only documents
-//! that workers added. The settled total never exceeds the read total. The rules are in docs/PROFILE.md, "The progress
-//! board".
+//! that workers added. The settled total never exceeds the read total. The specification of the board is in
+//! docs/PROFILE.md, "The progress board".
 #![tactic(auto)]
 
 mod board;

@@ -15,7 +15,7 @@ use std::alloc::{AllocError, Global};
 pub const MOST_WORKERS: u64 = 64;
 
 impl Board {
-    /// Creates a board with all counters at 0. Also creates a seat (an access token) for each worker, and then a seat
+    /// Creates a board with all counters at 0, and its seats (access tokens): first a seat for each worker, then a seat
     /// for each viewer.
     ///
     /// Returns `BadSeats` if the number of workers or the number of viewers is not from 1 to 64.

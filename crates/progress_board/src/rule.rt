@@ -1,5 +1,4 @@
-//! The facts that a seat (an access token for a progress board) has about the board's counters, and the rule that the
-//! counters satisfy.
+//! The state of a seat (an access token for a progress board), and the rule that the board's counters always satisfy.
 //!
 //! No value of the types in this file exists at run time. The types of this file represent what proofs know about the
 //! counters of a board.
@@ -7,8 +6,8 @@
 use atomic_table::{Play, Split, TableRule};
 use std::collections::LinkedList;
 
-/// The facts that a seat (an access token for a progress board) has: the kind of the seat, its number, and a lower
-/// bound for each counter.
+/// The state of a seat (an access token for a progress board): the seat's kind and number, and a lower bound of each
+/// counter.
 pub struct SeatView {
     pub deals: bool,
     pub works: bool,
@@ -17,8 +16,9 @@ pub struct SeatView {
     pub settles: LinkedList<u64>,
 }
 
-/// The rule that the counters of a board of k workers always satisfy. Counters 0 to k - 1 count the documents that each
-/// worker has read. Counters k to 2k - 1 count the documents that each worker has settled.
+/// The rule that the counters of a board always satisfy. On a board of k workers, the counters 0 to k - 1 count the
+/// documents that each worker has read. On a board of k workers, the counters k to 2k - 1 count the documents that each
+/// worker has settled.
 pub struct BoardRule;
 
 impl TableRule<(), SeatView, u64> for BoardRule {
@@ -29,7 +29,7 @@ impl TableRule<(), SeatView, u64> for BoardRule {
     ghost first = { λ k. dealer k 0 };
 }
 
-/// A worker adds to its read counter.
+/// The step in which a worker adds a number to its read counter on the board.
 pub struct AddsRead;
 
 impl Play<(), SeatView> for AddsRead {
@@ -39,7 +39,7 @@ impl Play<(), SeatView> for AddsRead {
     ghost then = { λ st v n w. (w.0 ≡ added_read v.0 st.first) × (w.1 ≡ v.1) };
 }
 
-/// A worker adds to its settled counter.
+/// The step in which a worker adds a number to its settled counter on the board.
 pub struct AddsSettled;
 
 impl Play<(), SeatView> for AddsSettled {
@@ -49,7 +49,7 @@ impl Play<(), SeatView> for AddsSettled {
     ghost then = { λ st v n w. (w.0 ≡ added_settled v.0 st.first) × (w.1 ≡ v.1) };
 }
 
-/// A seat (an access token for a progress board) loads a worker's read counter.
+/// The step in which a seat (an access token for a progress board) loads a worker's read counter.
 pub struct LooksAtRead;
 
 impl Play<(), SeatView> for LooksAtRead {
@@ -59,7 +59,7 @@ impl Play<(), SeatView> for LooksAtRead {
     ghost then = { λ st v n w. SeesRead v.0 st.word n w.0 × (w.1 ≡ v.1) };
 }
 
-/// A seat (an access token for a progress board) loads a worker's settled counter.
+/// The step in which a seat (an access token for a progress board) loads a worker's settled counter.
 pub struct LooksAtSettled;
 
 impl Play<(), SeatView> for LooksAtSettled {
@@ -69,7 +69,7 @@ impl Play<(), SeatView> for LooksAtSettled {
     ghost then = { λ st v n w. SeesSettled v.0 (st.word - length v.0.reads) n w.0 × (w.1 ≡ v.1) };
 }
 
-/// The dealer of a progress board creates a worker's seat (an access token for the board) with the worker's number.
+/// The step in which the creator of a board's seats (access tokens) creates a worker's seat with the worker's number.
 pub struct ToWorker;
 
 impl Split<SeatView> for ToWorker {
@@ -80,7 +80,7 @@ impl Split<SeatView> for ToWorker {
     ghost right = { hired };
 }
 
-/// The dealer of a progress board creates a viewer's seat (an access token for the board).
+/// The step in which the creator of a board's seats (access tokens) creates a viewer's seat.
 pub struct ToViewer;
 
 impl Split<SeatView> for ToViewer {

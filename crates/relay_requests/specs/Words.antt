@@ -19,7 +19,7 @@ operation_text RevsDiff = codes "_revs_diff"
 operation_text Carry = codes "_bulk_docs"
 operation_text WriteLog = codes "PUT _local"
 
--- The description of the required response to an operation, as written in a fault's message.
+-- The phrase with which an error message describes the required response to a request.
 abbrev pub expected_text : Operation → Text
 expected_text ReadLog = codes "a replication log"
 expected_text Changes = codes "a page of changes"
@@ -45,8 +45,7 @@ fault_name (refused id side status words) = codes "refused"
 fault_name (unaccounted id rev error count) = codes "unaccounted"
 fault_name log_changed = codes "log_changed"
 
--- The part of a fault's message that gives the error and the reason of a response row. The part is empty if the fault
--- has no error of a row.
+-- The text `, ERROR: REASON` for the error of a `_bulk_docs` row, or the empty text if no row reports an error.
 abbrev pub row_error_text : Option (Text × Text) → Text
 row_error_text None = []
 row_error_text (Some e) = codes ", " ++ e.0 ++ codes ": " ++ e.1

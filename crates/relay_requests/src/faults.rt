@@ -7,7 +7,7 @@ use crate::words::{expected_text, operation_text, quoted, side_text};
 use relay_core::{Fault, Unaccounted};
 use std::alloc::{AllocError, Global};
 
-/// Returns the name that the relay prints for a fault.
+/// Returns the name of a fault, which `couch_relay` prints as the member `error` of its result.
 pub(crate) fn fault_name(fault: &Fault) -> &'static str
     ensures { result.now ≡ fault_name (fault_view fault.now) }
 {

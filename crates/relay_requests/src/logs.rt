@@ -91,7 +91,7 @@ pub(crate) fn put_position(
     Ok(())
 }
 
-/// Writes a log up to the first entry of the log's history.
+/// Writes the beginning of a replication log, which ends before the first entry of the log's history.
 fn put_head(
     writer: &mut Writer,
     rev: &Option<String>,
@@ -110,7 +110,7 @@ fn put_head(
     Ok(())
 }
 
-/// Returns the JSON text of a log up to the first entry of the log's history.
+/// Returns the JSON text of the beginning of a replication log, which ends before the first entry of the log's history.
 fn log_head(
     alloc: Global,
     rev: &Option<String>,
@@ -147,7 +147,7 @@ fn has_entry(kept: &[Recorded<'_>], session_id: &str, seq: &str) -> bool
         .any(|r| r.session_id == session_id && r.seq == seq)
 }
 
-/// Whether the kept entries of a log say that the session has recorded the sequence.
+/// Whether one of the log entries `kept` has the session id `session_id` and the recorded sequence `seq`.
 fn is_recorded(kept: &[Recorded<'_>], session_id: &str, seq: &str) -> bool
     ensures { result ≡ list_any (is_recorded session_id.now seq.now) (kept_view kept.now) }
 {

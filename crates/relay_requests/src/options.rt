@@ -21,8 +21,8 @@ pub struct RequestOptions {
     pub choice: String,
 }
 
-/// Returns the path of both replication logs. The path depends on the source, the target, the filter, the query, the
-/// selection and the salt.
+/// Returns the path of the replication log, which is the same at the source and at the target. The path of a
+/// replication log depends on the source, the target, the filter, the query, the selection, and the value of `--salt`.
 pub fn log_path(
     alloc: Global,
     source: &str,

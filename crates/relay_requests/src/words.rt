@@ -1,4 +1,4 @@
-//! The names that requests and descriptions of faults use.
+//! Names of servers, kinds of requests and required responses, for use in requests and error messages.
 ghost use Rattle.std.specs.Prelude.{◌≡◌, IfOk, string_bytes};
 ghost use Rattle.relay_requests.specs.Words.{side_text, operation_text, expected_text, quoted};
 

@@ -9,7 +9,7 @@ abbrev pub GivesUnlessMemory : {A : Type 0} → Result A LogFault → Result A L
 GivesUnlessMemory (Err faults.Memory) expected = IsOk expected
 GivesUnlessMemory result expected = result ≡ expected
 
--- The result of a call, with a list of bytes instead of a vector of bytes.
+-- The result of a call that returns bytes: the list of the bytes, or the error.
 abbrev pub bytes_of : Result (Vec ℕ Global) LogFault → Result (List ℕ) LogFault
 bytes_of (Ok bytes) = Ok bytes.items
 bytes_of (Err fault) = Err fault

@@ -36,7 +36,8 @@ abbrev pub with_entry : List EntryValue → EntryValue → List EntryValue
 with_entry log e = if holds log e.session then replaced log e else e ∷ log
 
 -- The result of a put of entry e into a log, given the log's stored entry of e's session, or `None` if the log has no
--- such entry. The put fails with `Older` if the stored entry has a greater recorded sequence than e.
+-- such entry. The put fails with `Older` if the stored entry of the session has a greater recorded sequence than the
+-- new entry.
 abbrev pub put_beside : EntryValue → Option EntryValue → Result (Unit {0}) LogFault
 put_beside e None = Ok tt
 put_beside e (Some stored) = if nat_lt e.recorded stored.recorded then Err (faults.Older stored.recorded) else Ok tt
@@ -59,13 +60,13 @@ shared source target = find (λ t. holds source t.session) target
 abbrev pub lesser_of : EntryValue → EntryValue → SessionId × ℕ
 lesser_of t s = (t.session, min s.recorded t.recorded)
 
--- The session of the target's entry t, and the lesser of the sequences that both logs record for this session. The
--- result is `None` if the source's log lacks the session.
+-- The session of entry t in the target's log, and the lesser of the session's recorded sequences in the logs of source
+-- and target. The checkpoint is `None` if the source's log lacks the session of the target's entry.
 abbrev pub checkpoint_at : List EntryValue → EntryValue → Option (SessionId × ℕ)
 checkpoint_at source t = option_map (lesser_of t) (entry_for source t.session)
 
--- The newest session of the target's log that is also in the source's log, and the lesser of the sequences that both
--- logs record for this session. If no session is in both logs, there is no common checkpoint.
+-- The newest session of the target's log that is also in the source's log, and the lesser of the two sequences recorded
+-- for the session. If no session is in both logs, there is no common checkpoint.
 abbrev pub common : List EntryValue → List EntryValue → Option (SessionId × ℕ)
 common source target = option_and_then (checkpoint_at source) (shared source target)
 
@@ -75,7 +76,7 @@ pub record IsCommon (source target : List EntryValue) (s : SessionId) (n : ℕ) 
   pub older : List EntryValue
   pub at_target : EntryValue
   pub at_source : EntryValue
-  -- No newer session of the target's log is in the source's log.
+  -- No session of the target's log that is newer than the checkpoint's session is in the source's log.
   pub target_is : target ≡ newer ++ at_target ∷ older
   pub none_newer : list_any (λ t. holds source t.session) newer ≡ false
   -- The logs of source and target both have the session of the checkpoint.

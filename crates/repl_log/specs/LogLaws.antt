@@ -145,7 +145,8 @@ common-IsCommon source (t ∷ target) c h =
       | false ↦ λ not_held found. later source target t c.0 c.1 not_held (common-IsCommon source target c found)
     ] refl h
 
--- The sequence of a common checkpoint is at most the sequence that either log records for the checkpoint's session.
+-- For the session of a common checkpoint, the source's log and the target's log each record at least the checkpoint's
+-- sequence.
 pub common-le : (source target : List EntryValue) (s : SessionId) (n : ℕ) (c : IsCommon source target s n) → (n ≤ c.at_source.recorded) × (n ≤ c.at_target.recorded)
 common-le source target s n c = let lesser = c.lesser in (omega arith, omega arith)
 
@@ -196,14 +197,14 @@ turned source target i x is =
     ∙ ap (λ (y : EntryValue). common source (y ∷ drop (i + 1) target)) (get_or_from_slice_get target i x x is)
 
 -- Suppose that the target's entries before index i do not affect the common checkpoint. If the source's log has the
--- session of the target's entry at index i, the common checkpoint is this session, with the lesser of the session's two
--- recorded sequences.
+-- session of the target's entry at index i, this session is the session of the common checkpoint. The checkpoint's
+-- sequence is the lesser of the session's recorded sequences in the logs of source and target.
 pub common-at : (source target : List EntryValue) (i recorded : ℕ) (x : EntryValue) → common source target ≡ common source (drop i target) → slice_get target i ≡ Some x → recorded_of source x.session ≡ Some recorded
     → common source target ≡ Some (x.session, min recorded x.recorded)
 common-at source target i recorded x so_far is held = so_far ∙ turned source target i x is ∙ common-shared source (drop (i + 1) target) x recorded held
 
 -- Suppose that the target's entries before index i do not affect the common checkpoint. If the source's log lacks the
--- session of the target's entry at index i, this entry also does not affect the common checkpoint.
+-- session of the target's entry at index i, this entry has no effect on the common checkpoint.
 pub common-behind : (source target : List EntryValue) (i : ℕ) (x : EntryValue) → common source target ≡ common source (drop i target) → slice_get target i ≡ Some x → recorded_of source x.session ≡ None
     → common source target ≡ common source (drop (i + 1) target)
 common-behind source target i x so_far is none = so_far ∙ turned source target i x is ∙ common-passed source (drop (i + 1) target) x none

@@ -14,8 +14,8 @@ pub struct Log {
     entries: IndexMap<SessionId, Entry>,
 }
 
-// This type has no `#[derive(Drop)]`, because each crate that owns a value of the type would have to prove the derived
-// code (docs/DECISIONS.md, "Letting values go").
+// `Log` has a handwritten `drop`, because the code of `#[derive(Drop)]` would be proved again in each crate that owns a
+// `Log` (docs/DECISIONS.md, "Letting values go").
 impl Drop for Log {
     fn drop(self) {
         let Log { entries: _ } = self;
@@ -55,8 +55,8 @@ impl Log {
         }
     }
 
-    /// Stores an entry. The entry of a new session becomes the first entry. The entry of an existing session replaces
-    /// the old entry of this session.
+    /// Stores an entry. The entry of a new session becomes the first entry of the log. The entry of an existing session
+    /// replaces the old entry of this session.
     ///
     /// # Errors
     ///

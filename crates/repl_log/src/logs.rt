@@ -16,8 +16,8 @@ pub struct Logs {
     logs: IndexMap<RepId, Log>,
 }
 
-// This type has no `#[derive(Drop)]`, because each crate that owns a value of the type would have to prove the derived
-// code (docs/DECISIONS.md, "Letting values go").
+// `Logs` has a handwritten `drop`, because the code of `#[derive(Drop)]` would be proved again in each crate that owns
+// a `Logs` (docs/DECISIONS.md, "Letting values go").
 impl Drop for Logs {
     fn drop(self) {
         let Logs { logs: _ } = self;

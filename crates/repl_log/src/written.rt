@@ -28,7 +28,7 @@ use std::alloc::{AllocError, Global};
 /// - `Memory`: an allocation failed.
 pub fn write_log(alloc: Global, id: &RepId, log: &Log) -> Result<Vec<u8>, LogFault>
     ensures answer { GivesUnlessMemory (bytes_of result) (log_text id.now log.now) }
-    // The crate `httpdate` defines the format of the times.
+    // The timestamps in a serialized log have the format of the crate `httpdate`.
     ensures times { (date : Date) → time_text (unix_secs date) ≡ date_text date }
 {
     let Some(newest) = log.get(0) else {

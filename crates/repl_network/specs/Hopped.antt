@@ -51,7 +51,7 @@ abbrev pub AllLawful : List PeerValue → Type 0
 AllLawful peers = (n : ℕ) (p : PeerValue) → IsAt peers n p → LawfulDatabase p.db
 
 -- The peer at index `place` is the result of applying the function `change` to the peer that was at this index before.
--- No other peer of the network has changed.
+-- No peer of the network at another index than `place` has changed.
 pub record IsChangedAt (place : ℕ) (change : PeerValue → PeerValue) (peers peers' : List PeerValue) : Type 0 where
   pub before : PeerValue
   pub at : IsAt peers place before

@@ -7,12 +7,12 @@ use Rattle.repl_target.specs.declared.replication.Plan.{Plan}
 use Rattle.repl_network.specs.declared.hop.Hop.{Hop}
 use Rattle.repl_network.specs.Nets.{AllAgree, AllWhole, IsRefusedNowhere, IsSameEverywhere}
 
--- The hops (replications) by which a hub's synchronization copies to the hub, one from each other peer.
+-- The hops (replications) into the hub from peer n + 1 and the following peers, one hop for each plan.
 abbrev pub gathers : ℕ → List Plan → List Hop
 gathers n [] = []
 gathers n (plan ∷ plans) = record { from = n + 1; to = 0; plan = plan } ∷ gathers (n + 1) plans
 
--- The hops by which a hub's synchronization copies from the hub, one to each other peer.
+-- The hops (replications) from the hub into peer n + 1 and the following peers, one hop for each plan.
 abbrev pub spreads : ℕ → List Plan → List Hop
 spreads n [] = []
 spreads n (plan ∷ plans) = record { from = 0; to = n + 1; plan = plan } ∷ spreads (n + 1) plans

@@ -45,21 +45,22 @@ IsOneOf among peers place id parent deleted body =
     (p : PeerValue) → IsAt peers place p → (e : RevId × Option RevId) → edited p.db id parent deleted body ≡ Ok e
     → among (record { before = e.1; deleted = deleted; body = body }) ≡ true
 
--- Suppose that a document was made only by edits of a given set (`AllMadeBy`). If no two different edits of the set
--- have the same MD5, the document's trees at all peers agree and have complete histories.
+-- If only edits from a set without MD5 collisions made a document, the document's trees at all peers agree and have
+-- complete histories.
 abbrev pub MadeAgree : List PeerValue → Type 0
 MadeAgree peers =
     (among : EditValue → Bool) → HaveNoCollision among → (id : Id) → AllMadeBy among peers id
     → AllAgree peers id × AllWhole peers id
 
--- The call keeps the property `AllMadeBy` (a document was made only by edits of a given set) for every set and for
--- every document whose id is not `id`.
+-- If a document with another id than `id` was made only by edits from a set (`AllMadeBy`), this stays true after
+-- document `id` is stored.
 abbrev pub StaysMadeExcept : Id → List PeerValue → List PeerValue → Type 0
 StaysMadeExcept id peers peers' =
     (among : EditValue → Bool) (other : Id) → other ≢ id → AllMadeBy among peers other → AllMadeBy among peers' other
 
--- An edit of document `id` keeps the property `AllMadeBy` (a document was made only by edits of a given set) for every
--- set and for every document. For the document `id`, the edit must fail or be in the set (`IsOneOf`).
+-- If a document with another id than `id` was made only by edits from a set (`AllMadeBy`), this stays true after an
+-- edit of `id`. An edit of document `id` keeps the property `AllMadeBy` of `id` if the edit fails or belongs to the set
+-- of edits (`IsOneOf`).
 abbrev pub StaysMadeByEdit : ℕ → Id → Option RevId → Bool → List ℕ → List PeerValue → List PeerValue → Type 0
 StaysMadeByEdit place id parent deleted body peers peers' =
     (among : EditValue → Bool) (at : Id) → (at ≡ id → IsOneOf among peers place id parent deleted body)

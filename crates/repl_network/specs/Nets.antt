@@ -30,7 +30,7 @@ filters_of peers = map (λ p. p.0) peers
 abbrev pub IsAt : List PeerValue → ℕ → PeerValue → Type 0
 IsAt peers n p = slice_get peers n ≡ Some p
 
--- The backups of a network, each with the place of the backed-up peer.
+-- The list `backups` of a network has the backup b of the peer with index n.
 abbrev pub AreKept : List (ℕ × BackupValue) → ℕ → BackupValue → Type 0
 AreKept backups n b = Among (n, b) backups
 
@@ -78,13 +78,14 @@ abbrev pub AllChoose : List Hop → Id → Type 0
 AllChoose [] id = Unit {0}
 AllChoose (h ∷ hops) id = (is_chosen h.plan.chosen id ≡ true) × AllChoose hops id
 
--- A chain of the listed hops leads from the place `from` to the place `to`. A chain consists of some of the listed
--- hops, in order. Each hop of a chain begins at the place at which the previous hop ends.
+-- A chain of hops in the list `hops` leads from the peer with index `from` to the peer with index `to`. A chain
+-- consists of some hops of a list, in order. Each hop of a chain begins at the peer at which the chain's previous hop
+-- ends.
 abbrev pub Leads : List Hop → ℕ → ℕ → Type 0
 Leads [] from to = from ≡ to
 Leads (h ∷ hops) from to = Leads hops from to ⊎ (from ≡ h.from) × Leads hops h.to to
 
--- For every two places, a chain of the listed hops leads from the first place to the second place.
+-- In a network of `count` peers, chains of hops in the list `hops` lead from every peer to every other peer.
 abbrev pub LeadsEverywhere : List Hop → ℕ → Type 0
 LeadsEverywhere hops count = (m n : ℕ) → m < count → n < count → Leads hops m n
 
@@ -92,10 +93,10 @@ LeadsEverywhere hops count = (m n : ℕ) → m < count → n < count → Leads h
 
 -- How consecutive hops change a document that each hop's plan selects and no peer has refused. Before the hops, the
 -- peers of the network must be consistent, and the document's trees must agree and have complete histories. If a chain
--- of hops (replications) leads from place m to place n, the peer at n gets all revisions of the document that the peer
--- at m had. If a chain of hops leads from every place to every other place, the document is then the same in all peers.
--- After the hops, the document's trees agree and have complete histories, and each revision in these trees was at some
--- peer before the hops.
+-- of hops (replications) leads from peer m to peer n, peer n gets all revisions of document `id` that peer m had. If
+-- chains of hops lead from every peer to every other peer, all peers have the same document `id` after the hops. After
+-- the hops, the document's trees agree and have complete histories, and each revision in these trees was at some peer
+-- before the hops.
 pub record Spreads (peers : List PeerValue) (hops : List Hop) (peers' : List PeerValue) (id : Id) : Type 0 where
   pub along : (m n : ℕ) (p q : PeerValue) → IsAt peers m p → IsAt peers' n q → Leads hops m n
       → (r : RevId) → has (tree_of p.db.docs id) r ≡ true → has (tree_of q.db.docs id) r ≡ true

@@ -1,5 +1,5 @@
--- Defines networks of peers that have keys, and the steps of a network, as specified in docs/PROFILE.md, "Nets" and
--- "Tied databases". A key is the index of a peer in a list, or the name of a database.
+-- Defines networks, in which each peer has a key, and the steps of a network, as specified in docs/PROFILE.md, "Nets"
+-- and "Tied databases". A peer's key is the index of the peer in a list, or the name of the peer's database.
 use Rattle.std.specs.Prelude.{◌≡◌, ◌≢◌, ◌⊎◌, ℕ, Bool, List, [], Option, Some, None, Ok}
 use Rattle.doc_json.specs.Document.{Document}
 use Rattle.doc_json.specs.Chosen.{Choice}
@@ -31,7 +31,8 @@ LeadToOthers peers own logs = (l : RepId × List EntryValue) → Among l logs �
 abbrev pub ComeFromOthers : {K : Type 0} → (K → Option PeerValue) → ℕ → List SessionValue → Type 0
 ComeFromOthers peers own sessions = (s : SessionValue) → Among s sessions → IsOther peers own s.rep.source
 
--- Backup b has the UUID of the peer with key n. Each log of b belongs to a replication into another peer.
+-- The backup b has the same UUID as the peer whose key in the network is n. Each log in the backup b belongs to a
+-- replication into another peer of the network.
 pub record IsCopyAt {K : Type 0} (peers : K → Option PeerValue) (n : K) (b : BackupValue) : Type 0 where
   pub peer : PeerValue
   pub there : peers n ≡ Some peer
@@ -42,12 +43,13 @@ pub record IsCopyAt {K : Type 0} (peers : K → Option PeerValue) (n : K) (b : B
 abbrev pub AreCopiesAt : {K : Type 0} → (K → BackupValue → Type 0) → K → List BackupValue → Type 0
 AreCopiesAt copy n backups = (b : BackupValue) → Among b backups → copy n b
 
--- The source p, which has key n, is consistent with the target q, and so is each backup of p.
+-- For the selection `chosen`, the source p and each of its backups are consistent with the target q. The key of the
+-- source p in the network is n.
 abbrev pub AreTiedAt : {K : Type 0} → (K → BackupValue → Type 0) → K → PeerValue → PeerValue → Choice → Type 0
 AreTiedAt copy n p q chosen = (backups : List BackupValue) → AreCopiesAt copy n backups → IsTiedWith backups p q chosen
 
--- For every selection, every two peers with different keys are consistent in both directions, with their backups. No
--- two keys have peers with the same UUID.
+-- For every selection of documents, each peer and each backup of the peer, as a source, is consistent with each other
+-- peer, as a target. No two peers of the network have the same UUID.
 pub record AreConsistent {K : Type 0} (peers : K → Option PeerValue) (copy : K → BackupValue → Type 0) : Type 0 where
   pub apart : (m n : K) (p q : PeerValue) → peers m ≡ Some p → peers n ≡ Some q → p.db.uuid ≡ q.db.uuid → m ≡ n
   pub tied : (m n : K) (p q : PeerValue) → peers m ≡ Some p → peers n ≡ Some q → m ≢ n → (chosen : Choice)
@@ -63,7 +65,7 @@ pub record IsNetwork {K : Type 0} (peers : K → Option PeerValue) (copy : K →
 
 -- ---- steps
 
--- The peer with key n was p and is p'. No other peer has changed.
+-- In a network, only the peer with the key n has changed: it was p and is p'.
 pub record Becomes {K : Type 0} (peers : K → Option PeerValue) (n : K) (p p' : PeerValue) (peers' : K → Option PeerValue)
     : Type 0 where
   pub was : peers n ≡ Some p
@@ -76,7 +78,8 @@ pub record Writes (p p' : PeerValue) : Type 0 where
   pub logs : p'.outgoing ≡ p.outgoing
   pub sessions : p'.sessions ≡ p.sessions
 
--- A replication, by one thread or by the pool, has changed the peers with the keys m and n. No other peer has changed.
+-- A replication by one or several threads has changed two peers of a network, the source with key m and the target with
+-- key n. No peer except the source and the target has changed.
 pub record IsReplicated {K : Type 0} (peers : K → Option PeerValue) (m n : K) (peers' : K → Option PeerValue) : Type 0
   where
     pub refuses : Document → Bool

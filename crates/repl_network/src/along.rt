@@ -24,11 +24,12 @@ use std::alloc::Global;
 /// Performs hops (replications between two peers of a network) in order, until a hop fails. Each hop is a call of
 /// `replicate_alone` with the hop's plan.
 ///
-/// If every two peers are consistent (docs/PROFILE.md, "Nets"), they stay consistent, even if the call fails. Let d be
-/// a document that each plan selects and no peer has refused, and whose trees agreed and had complete histories before
-/// the call. If every two peers are consistent and the call succeeds, the trees of document d at all peers still agree
-/// and have complete histories. If chains of hops also lead from every peer to every other peer, all peers have the
-/// same document d with the same winner after the call.
+/// If every two peers are consistent (docs/PROFILE.md, "Nets"), they stay consistent, even if the call fails. A
+/// document is *selected* if the plan of every hop selects it, and no peer has refused it when the call returns. A
+/// successful call on consistent peers keeps the trees of a selected document in agreement and with complete histories.
+/// If chains of hops lead from every peer to every other peer, a successful call on consistent peers makes a selected
+/// document with agreeing, complete trees the same everywhere. A document that is the same at all peers has the same
+/// winner at all peers.
 pub fn replicate_along<F: WriteFilter>(
     alloc: Global,
     peers: &mut [Peer<F>],
@@ -54,11 +55,11 @@ pub fn replicate_along<F: WriteFilter>(
 
 /// Stores a user's document at one peer of a network (`Peer::load`).
 ///
-/// If every two peers are consistent, they stay consistent, even if the call fails. If the document's trees agreed and
-/// had complete histories before the call, the trees still agree and have complete histories after the call under two
-/// conditions. The first condition is that no revision has different parents or different contents in a peer's tree and
-/// in the stored document. The second condition is that the ancestry of the stored document is complete, or that the
-/// ancestry's oldest revision is in the tree of the peer that stores the document.
+/// If every two peers are consistent, they stay consistent, even if the call fails. `load_at` keeps each document's
+/// trees in agreement and with complete histories if the stored document agrees with each peer's tree and is complete
+/// at the storing peer. The stored document agrees with a tree if no revision has different parents or different
+/// contents in the document and in the tree. The stored document is complete at a peer if its ancestry is complete, or
+/// if the peer's tree has the ancestry's oldest revision.
 pub fn load_at<F: WriteFilter>(
     peers: &mut [Peer<F>],
     place: usize,
@@ -87,9 +88,9 @@ pub fn load_at<F: WriteFilter>(
 /// Edits a document at one peer of a network (`Peer::edit`).
 ///
 /// If every two peers are consistent, they stay consistent, even if the call fails. The edit keeps the document's trees
-/// in agreement and with complete histories, unless a peer has the new revision with another parent or content. If all
-/// revisions of the document come from edits, a peer has the new revision with another parent or content only if two
-/// different edits have the same MD5.
+/// in agreement and with complete histories, unless a peer has the new revision with another parent or content. If only
+/// edits made a document, a peer has an edit's new revision with another parent or content only if two different edits
+/// have the same MD5.
 pub fn edit_at<F: WriteFilter>(
     peers: &mut [Peer<F>],
     place: usize,

@@ -16,10 +16,10 @@ use std::alloc::{AllocError, Global};
 /// thread performs all replications, two for each peer other than the hub. For each direction, the caller gives a plan
 /// for each peer other than the hub, in order.
 ///
-/// If every two peers are consistent, they stay consistent, even if the call fails. Suppose that all plans select a
-/// document, no peer has refused this document, and the document's trees agreed and had complete histories before the
-/// call. If the call succeeds, all peers then have the same document, and the document's trees still agree and have
-/// complete histories.
+/// If every two peers are consistent, they stay consistent, even if the call fails. A document is *selected* if all
+/// plans in both directions select it, and no peer has refused it when the call returns. A successful call on
+/// consistent peers makes a selected document with agreeing, complete trees the same at all peers. A successful call on
+/// consistent peers keeps the trees of a selected document in agreement and with complete histories.
 ///
 /// # Errors
 ///

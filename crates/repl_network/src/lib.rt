@@ -1,6 +1,6 @@
 //! Theorems about any number of peers, and about replications between any two of these peers.
 //!
-//! The rules are in docs/PROFILE.md, "Nets".
+//! The specification of networks is in docs/PROFILE.md, "Nets".
 #![tactic(auto)]
 
 mod along;

@@ -1,17 +1,18 @@
-//! Rows of calls that test backups. In these tests, a source is restored from a backup, which changes the source's life
-//! (a number). Some calls then pass a window or a log entry to a session or a peer that expects a different life of the
-//! source. The expected results hold if no allocation fails.
+//! Tests of backups. Each test is a table of calls with expected results. A restore of a source from a backup changes
+//! the source's life (a number). The test `other_life_refused` passes windows and log entries from one life of the
+//! source to sessions and peers that expect another life. The expected results of the calls assume that no allocation
+//! fails.
 use crate::tests::peers::{Call, Lists, Rep, Rows, expect};
 use rev_tree::SessionId;
 
-/// The indices of the source, the target and a third peer in a bench.
+/// The indices of the source, the target and a third peer among the peers of a test.
 const SOURCE: usize = 0;
 
 const TARGET: usize = 1;
 
 const OTHER: usize = 2;
 
-/// The indices of the first, the second and the third backup or window of a bench.
+/// The indices of the first three items in each of a test's lists: the backups and the windows.
 const FIRST: usize = 0;
 
 const SECOND: usize = 1;
@@ -115,9 +116,10 @@ fn other_life_refused(rt: HostRuntime) {
         (Call::PutEntry(SOURCE, REP, S1, 1), "OtherLife { now: 1 }"),
         (Call::SourceLog(SOURCE, REP), "1 at 3;"),
         (Call::Page(SOURCE, 3, 4), "3 to 4: 4 e 1-a;"),
-        // The window is from another life (incarnation of the source's database), and begins below 6, the end of the
-        // second session's windows. Of these two faults, `Append` reports the other life. The third session does not
-        // exist yet.
+        // The second window of the test is from another life (incarnation) of the source than the session S2. The
+        // second window of the test begins at sequence 3, below 6, the end of the stored windows of the session S2.
+        // `Append` reports that a window is from another life before it reports that the window begins too low. When
+        // the test first appends a window to the session S3, this session does not exist yet.
         (Call::Append(TARGET, S2, SECOND), "OtherLife { now: 0 }"),
         (Call::Append(TARGET, S3, SECOND), "NoSuchSession"),
         (
@@ -140,7 +142,7 @@ fn other_life_refused(rt: HostRuntime) {
 fn copies_are_refused_by_name(rt: HostRuntime) {
     const ROWS: Rows = &[
         (Call::Backup(TARGET), "IsTarget"),
-        // The backup is from another peer, but `Restore` first reports that the peer is a target.
+        // `Restore` of the target reports `IsTarget` before it reports that the backup is from the source.
         (Call::Restore(TARGET, FIRST), "IsTarget"),
         (Call::Peer(3, None), "made"),
         (Call::Restore(OTHER, FIRST), "ForeignBackup"),
@@ -167,8 +169,8 @@ fn a_life_is_above_both(rt: HostRuntime) {
         (Call::Numbers(SOURCE), "1 at 4"),
         (Call::Tree(SOURCE, "e"), "1-a of 1"),
         (Call::Backup(SOURCE), "1 at 4"),
-        // A new peer, with the source's UUID and a filter, is restored from the third backup. The new peer keeps this
-        // filter.
+        // A new peer, with the source's UUID and a filter, is restored from the third backup. The restored peer keeps
+        // the filter with which the peer was created.
         (Call::Peer(1, Some("d")), "made"),
         (Call::Restore(OTHER, THIRD), "restored"),
         (Call::Life(OTHER), "4"),

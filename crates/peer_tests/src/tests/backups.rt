@@ -1,4 +1,4 @@
-//! Functions that back up and restore the peers of a bench.
+//! Functions that back up and restore the peers of a test.
 use crate::tests::records::fault_text;
 use crate::tests::texts::numbers_text;
 use repl_target::{Backup, Peer, Rules};

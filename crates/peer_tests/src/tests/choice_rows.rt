@@ -1,5 +1,5 @@
-//! Rows of calls that test selections of documents, pages and replications of selected documents, and the logs of such
-//! replications.
+//! Tests of selections of documents: pages and replications of the selected documents, and the logs of the
+//! replications. Each test is a table of calls with expected results.
 use crate::tests::choices::{Call, Rows, expect};
 use rev_tree::SessionId;
 

@@ -1,4 +1,4 @@
-//! Calls on selections of documents, and on two peers between which the selected documents are replicated.
+//! Calls that create and read selections of documents, and replicate the selected documents from a source to a target.
 use crate::tests::peers::{agreed, found_text, load, source_log, target_log};
 use crate::tests::plans::plan;
 use crate::tests::records::{fault_text, report_text};
@@ -15,19 +15,20 @@ use test_support::shown;
 /// The index of a selection, or `None` for all documents.
 pub(crate) type Under = Option<usize>;
 
-/// A call on the source, on the target, or on a selection that is given by its index.
+/// A call in a test that replicates selected documents from a source to a target. A call names a selection of documents
+/// by the selection's index.
 #[derive(Clone, Copy)]
 pub(crate) enum Call<'a> {
     /// Load a document into the source.
     Load(&'a str),
     /// Load a document into the target.
     LoadTarget(&'a str),
-    /// Select documents by id, and store the selection as the bench's next selection.
+    /// Select documents by id, and store the selection as the test's next selection.
     Choose(&'a [&'a str]),
-    /// Select the documents with the numbers from 1 to a given number, and store the selection as the bench's next
-    /// selection. The call passes the first id twice.
+    /// Select the documents with the numbers from 1 to a given number, and store the selection as the test's next
+    /// selection. `ChooseMany` passes the id of document 1 twice.
     ChooseMany(u32),
-    /// Copy a selection, and store the copy as the bench's next selection.
+    /// Copy a selection, and store the copy as the test's next selection.
     Copy(usize),
     /// Check whether two selections, which are given by their indices, are equal.
     Equal(usize, usize),
@@ -100,7 +101,7 @@ impl Bench {
         }
     }
 
-    /// Performs a call that does not create a selection.
+    /// Performs a call that adds no selection to the test's list of selections.
     fn answer_under(&mut self, call: &Call) -> Option<String> {
         let (source, target) = (&mut self.source, &mut self.target);
         match *call {
@@ -133,7 +134,7 @@ fn under_of(call: &Call) -> Under {
     }
 }
 
-/// Performs a call that uses a selection.
+/// Performs a call with the selection `chosen` of documents, or with all documents if `chosen` is `None`.
 fn of_peers(
     alloc: Global,
     source: &mut Peer<Rules>,
@@ -155,7 +156,7 @@ fn of_peers(
     }
 }
 
-/// Performs a read-only call that uses a selection.
+/// Performs a read-only call with the selection `chosen` of documents, or with all documents if `chosen` is `None`.
 fn read(
     alloc: Global,
     source: &Peer<Rules>,
@@ -176,7 +177,7 @@ fn read(
     }
 }
 
-/// Performs a call on a replication.
+/// Performs a call that reads the id or the logs of the replication `rep`.
 fn of_replication(
     alloc: Global,
     source: &Peer<Rules>,
@@ -337,7 +338,8 @@ fn page_of(
     source.page(alloc, since, goal, 500, chosen).ok()
 }
 
-/// Appends a window to a session, if the window exists.
+/// Appends a window to a session of the target. Returns `None` if `window` is `None`, because the page could not be
+/// read.
 fn store(
     alloc: Global,
     target: &mut Peer<Rules>,
@@ -402,7 +404,7 @@ fn begin(
     }
 }
 
-/// Performs lists of calls on a new bench, and asserts that each call returns the expected result.
+/// Performs lists of calls on a new source and a new target, and asserts that each call returns the expected result.
 pub(crate) fn expect(rt: &impl Abort, alloc: Global, lists: &[Rows]) {
     let mut bench = Bench::new(alloc);
     for calls in lists {

@@ -1,14 +1,14 @@
-//! Rows of calls that test databases: pages, puts, edits, requests and fetches. The expected results hold if no
-//! allocation fails.
+//! Tests of databases: pages, puts, edits, requests and fetches. Each test is a table of calls with expected results,
+//! which assume that no allocation fails.
 use crate::tests::databases::{Bench, Call, Rows, expect};
 
-/// The index of the first database of a bench, from which documents are fetched.
+/// The index of a test's first database, which most calls read or change.
 const A: usize = 0;
 
-/// The index of the second database of a bench, which requests missing leaves.
+/// The index of a test's second database, which requests the leaves that it lacks.
 const B: usize = 1;
 
-/// The index of the first window, request or parcel that was read or fetched.
+/// The index of the first item in each of a test's lists: the windows, the requests and the parcels.
 const FIRST: usize = 0;
 
 /// Calls that store three documents, whose sequences are 1, 2 and 5.
@@ -270,8 +270,8 @@ fn a_fetched_document_has_its_ancestry_and_content(rt: HostRuntime) {
         (Call::Put(A, DELETED), "Changed { seq: 3 }"),
         (Call::Page(A, 0, 3, 10), "0 to 3: 3 d 2-a,3-c;"),
         (Call::Diff(B, FIRST), "0 to 3: d 2-a,3-c;"),
-        // A request or fetch lists the live leaf before the deleted leaf. The fetched ancestry of the deleted leaf is
-        // longer than the ancestry in `DELETED`, because the tree has an older ancestor.
+        // A request or fetch lists the live leaf before the deleted leaf. The fetched ancestry of the leaf 3-c
+        // continues to 1-r, the parent of 2-b in the tree, although the ancestry in `DELETED` ends at 2-b.
         (
             Call::Fetch(A, FIRST),
             r#"0 to 3: d 2-a,1-r live {"n":1}; d 3-c,2-b,1-r deleted {};"#,
@@ -345,10 +345,11 @@ fn pages_of_few_documents_with_high_sequences(rt: HostRuntime) {
 fn copies_of_a_database(rt: HostRuntime) {
     /// The greatest life.
     const LAST: u64 = 9_007_199_254_740_991;
-    // The indices of three copies: a copy of the first database with the same life, a copy with another life, and a
-    // copy of the second copy. A life is a number that changes when a database is restored.
+    // The index of a copy of the first database with the same life, a number that changes when a database is restored.
     const SAME: usize = 1;
+    // The index of a copy of the first database with another life.
     const OTHER: usize = 2;
+    // The index of a copy of the database `OTHER`.
     const LATEST: usize = 3;
     const WHOLE: &str = "0 to 5: 1 a 1-a; 2 b 1-b; 5 c 1-e,1-d,1-c;";
     static ROWS: Rows = &[
@@ -373,8 +374,8 @@ fn copies_of_a_database(rt: HostRuntime) {
         (Call::Life(OTHER), "9"),
         (Call::Tree(A, "a"), "1-a of 1"),
         (Call::Tree(SAME, "a"), "1-a of 1"),
-        // If the call `Copy` gives no life (the number that changes when a database is restored), the new copy has the
-        // life of the copied database, here `OTHER`.
+        // Without a life (the number that changes when a database is restored), the call `Copy` gives the new copy the
+        // life of the copied database.
         (Call::Copy(OTHER, None), "made"),
         (Call::Life(LATEST), "9"),
         (Call::Numbers(LATEST), "7 at 6"),

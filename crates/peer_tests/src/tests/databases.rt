@@ -1,4 +1,4 @@
-//! Calls on databases, and benches that hold databases and the values that calls read and fetched.
+//! Calls on databases, and a test fixture that holds databases and the pages, requests and parcels that calls returned.
 use crate::tests::texts::{
     asked_text, base_fault_text, body, doc, doc_text, expect_answer, node_text, numbers_text,
     parcel_text, tree_text, window_text,
@@ -14,14 +14,14 @@ use test_support::{rev, rev_text, shown};
 /// A call on a database. A call names each database, window, request or parcel by an index.
 #[derive(Clone, Copy)]
 pub(crate) enum Call<'a> {
-    /// Create the bench's next database with a UUID and an update sequence.
+    /// Create the test's next database with a UUID and an update sequence.
     DatabaseAt(u128, u64),
     /// Put a document.
     Put(usize, &'a str),
-    /// Edit a document, given the document's id, the parent revision (an empty string for none), the deleted flag, the
-    /// body, and the number of the local write.
+    /// Edit a document, given the document's id, the parent revision (an empty string for no parent), the deleted flag,
+    /// and the body. The last parameter is the number of the local write, the origin of the new revision.
     Edit(usize, &'a str, &'a str, bool, &'a str, u64),
-    /// Copy a database, and store the copy as the bench's next database. The copy has the given life (incarnation
+    /// Copy a database, and store the copy as the test's next database. The copy has the given life (incarnation
     /// number), or the life of the copied database if no life is given.
     Copy(usize, Option<u64>),
     /// Read the UUID and the update sequence.
@@ -68,7 +68,7 @@ impl Held {
     }
 }
 
-/// A bench: databases, and the values that were read and fetched from the databases.
+/// The databases of a test, and the windows, requests and parcels that calls returned.
 #[derive(Drop)]
 pub(crate) struct Bench {
     alloc: Global,
@@ -175,7 +175,7 @@ fn read(alloc: Global, db: &Database, call: &Call) -> Option<String> {
     }
 }
 
-/// Creates the bench's next database, with a given update sequence.
+/// Creates the test's next database, with a given update sequence.
 fn make_at(alloc: Global, databases: &mut Vec<Database>, uuid: u128, seq: u64) -> Option<String> {
     match Database::new_at(alloc, uuid, seq) {
         Ok(db) => made_text(alloc, databases.push(db).ok()),
@@ -186,7 +186,7 @@ fn make_at(alloc: Global, databases: &mut Vec<Database>, uuid: u128, seq: u64) -
 /// The greatest life (incarnation number) of a database: 2^53 - 1.
 const LAST_LIFE: u64 = 9_007_199_254_740_991;
 
-/// Copies a database, and stores the copy as the bench's next database. The copy has the given life (incarnation
+/// Copies a database, and stores the copy as the test's next database. The copy has the given life (incarnation
 /// number), or the life of the copied database if no life is given.
 fn copy(
     alloc: Global,
@@ -213,7 +213,7 @@ fn copied(alloc: Global, db: &Database, life: Option<u64>) -> Option<Database> {
     }
 }
 
-/// Reads a page of the feed, and stores the page as the bench's next window.
+/// Reads a page of the feed, and stores the page as the test's next window.
 fn page(
     alloc: Global,
     db: &Database,
@@ -308,8 +308,8 @@ pub(crate) fn keep_parcel(
     text
 }
 
-/// Performs lists of calls on a new bench with databases of the given UUIDs, and asserts that each call returns the
-/// expected result.
+/// Performs lists of calls on new databases with the given UUIDs, and asserts that each call returns the expected
+/// result.
 pub(crate) fn expect(rt: &impl Abort, alloc: Global, uuids: &[u128], lists: &[Rows]) {
     let mut bench = Bench::new(rt, alloc, uuids);
     for calls in lists {

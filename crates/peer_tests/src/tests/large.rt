@@ -70,7 +70,7 @@ fn load_leaf(alloc: Global, peer: &mut Peer<Rules>, number: u32) -> Option<Strin
     put_text(alloc, peer.load(&doc))
 }
 
-/// Loads a given number of leaves of d, all of generation 1, and returns the result of the last load.
+/// Loads a given number of leaves of the document d, all of generation 1, and returns the result of the last load.
 pub(crate) fn load_wide(alloc: Global, peer: &mut Peer<Rules>, leaves: u32) -> Option<String> {
     let mut text = String::new(alloc);
     for number in 0..leaves {
@@ -109,8 +109,8 @@ pub(crate) fn edit_large(alloc: Global, peer: &mut Peer<Rules>, letters: usize) 
     edit_text(alloc, peer.edit(&id, None, false, &body))
 }
 
-/// Reads the size of the tree of d: the winner, the numbers of leaves and revisions, and the lengths of the winner's
-/// ancestry and body.
+/// Reads the size of the document d's tree: the winner, the numbers of leaves and revisions, and the lengths of the
+/// winner's ancestry and body.
 pub(crate) fn sizes(alloc: Global, peer: &Peer<Rules>) -> Option<String> {
     let Ok(id) = DocId::parse(alloc, "d") else {
         return None;

@@ -1,4 +1,5 @@
-//! Rows of test calls with large values. No call fails, because enough memory is available.
+//! Tests of calls with large values, such as a tree of 1,001 leaves or a body of 100 KB. No call fails, because enough
+//! memory is available.
 use crate::tests::peers::{Call, Lists, Rows, expect};
 use rev_tree::SessionId;
 
@@ -37,7 +38,7 @@ fn a_tree_of_1_001_leaves(rt: HostRuntime) {
             Call::Replicate(S1, 10_000),
             "session 1 from 0 to 1001 checked 1001 found 1001 read 1001 written 1001 failed 0",
         ),
-        // The signature 999 is the greatest in string order.
+        // The winner is 1-999, because 999 is the greatest of the signatures 0 to 1000 in string order.
         (
             Call::Sizes(TARGET),
             "1-999 of 1001 leaves and 1001 revs, walk 1, body 2",

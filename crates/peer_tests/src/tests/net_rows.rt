@@ -1,5 +1,5 @@
-//! Rows of calls that test networks. The tests spread documents through a hub, break a chain of hops, refuse a
-//! document, load an incomplete history, and cause each error.
+//! Tests of networks of peers. The tests spread documents through a hub, break a chain of hops, refuse a document, load
+//! an incomplete history, and cause each error.
 use crate::tests::nets::{Call, Lists, Rows, expect, of_slice};
 
 /// Four peers.
@@ -76,7 +76,8 @@ fn a_broken_chain_brings_nothing_to_its_end(rt: HostRuntime) {
             Call::Load(0, r#"{"_id":"d","_rev":"1-a"}"#),
             "Changed { seq: 1 }",
         ),
-        // This list has both hops (replications) of the chain from peer 0 to peer 2, but in reverse order.
+        // The hop (replication) from peer 1 to peer 2 comes before peer 1 gets the document d from peer 0, so peer 2
+        // lacks d.
         (Call::Along(&[(1, 2), (0, 1), (3, 2)]), "done"),
         (Call::Tree(1, "d"), "1-a of 1"),
         (Call::Tree(2, "d"), "no document"),
@@ -112,7 +113,8 @@ fn a_refused_document_stays_away_and_others_go_on(rt: HostRuntime) {
         (Call::Tree(2, "x1"), "no document"),
         (Call::Tree(0, "d"), "1-a of 1"),
         (Call::Tree(2, "d"), "1-a of 1"),
-        // In the next replication, the hub refuses the document x1 a second time.
+        // After edits of the documents d and x1, the replication through the hub copies d, and the hub refuses x1
+        // again.
         (Call::Edit(2, "d", "1-a", r#"{"v":1}"#), SECOND),
         (Call::Edit(1, "x1", "1-a", r#"{"v":1}"#), SECOND),
         (Call::Hub(2, 2), "done"),
@@ -163,7 +165,7 @@ fn a_history_that_is_cut_off_stays_so(rt: HostRuntime) {
 #[test]
 fn trees_that_disagree_do_so_still(rt: HostRuntime) {
     const ROWS: Rows = &[
-        // The revision 2-c of d has different parents at the peers 0 and 1.
+        // The revision 2-c of the document d has different parents at the peers 0 and 1.
         (
             Call::Load(0, r#"{"_id":"d","_revisions":{"start":2,"ids":["c","x"]}}"#),
             "Changed { seq: 1 }",
@@ -172,7 +174,7 @@ fn trees_that_disagree_do_so_still(rt: HostRuntime) {
             Call::Load(1, r#"{"_id":"d","_revisions":{"start":2,"ids":["c","y"]}}"#),
             "Changed { seq: 1 }",
         ),
-        // The revision 1-a of e has different contents at the peers 0 and 1.
+        // The revision 1-a of the document e has different contents at the peers 0 and 1.
         (
             Call::Load(0, r#"{"_id":"e","_rev":"1-a","v":1}"#),
             "Changed { seq: 2 }",

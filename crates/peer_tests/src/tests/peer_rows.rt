@@ -1,5 +1,5 @@
-//! Rows of calls that test peers. The calls write documents locally, replicate documents in sessions, cause each error,
-//! read and write logs, and audit peers. The expected results hold if no allocation fails.
+//! Tests of peers. The tests write documents locally, replicate documents in sessions, cause each error, read and write
+//! logs, and audit peers. The expected results of the calls assume that no allocation fails.
 use crate::tests::peers::{Beginning, Call, Lists, Rep, Rows, expect};
 use rev_tree::SessionId;
 
@@ -10,7 +10,7 @@ const TARGET: usize = 1;
 
 const OTHER: usize = 2;
 
-/// The indices of the first, the second and the third window, request or parcel that was read or fetched.
+/// The indices of the first three items in each of a test's lists: the windows, the requests and the parcels.
 const FIRST: usize = 0;
 
 const SECOND: usize = 1;
@@ -39,8 +39,8 @@ const OTHER_REP: Rep = Rep {
 /// The document d with the revision 1-a and an empty body.
 const D: &str = r#"{"_id":"d","_rev":"1-a"}"#;
 
-/// The revision that an edit of d creates from the parent 1-a and an empty body. The revision's signature is the MD5 of
-/// the parent, the kind and the body.
+/// The revision that an edit of the document d creates from the parent 1-a and an empty body. The revision's signature
+/// is the MD5 of the parent, the kind and the body.
 const NEXT: &str = "2-1c600d37126a8e6d3c67d6f7a6a5c299";
 
 /// The parameters of a session of the replication `REP` that starts at sequence 0, has the goal 1, and has no base
@@ -78,8 +78,8 @@ const THREE: Rows = &[
     (Call::Load(SOURCE, D), "Changed { seq: 1 }"),
 ];
 
-/// Calls that begin the first session of the target, store the source's feed in the session, and request the feed's
-/// document.
+/// Calls that begin the target's first session, store the source's feed in the session, and request the document d, the
+/// only one in the feed.
 const ASKED: Rows = &[
     (Call::Begin(TARGET, S1, TO_ONE, 10), "begun"),
     (Call::Page(SOURCE, 0, 1), "0 to 1: 1 d 1-a;"),
@@ -87,8 +87,8 @@ const ASKED: Rows = &[
     (Call::Diff(TARGET, FIRST), "0 to 1: d 1-a;"),
 ];
 
-/// Calls that edit d at the source, and then fetch the requested revision. The fetch returns the new descendant of the
-/// requested revision.
+/// Calls that edit the document d at the source, and then fetch the revision 1-a of d. The fetch returns the new
+/// revision of the document d, a child of the requested revision 1-a.
 const MOVED: Rows = &[
     (Call::Edit(SOURCE, "d", "1-a", false, "{}"), NEXT),
     (Call::Numbers(SOURCE), "1 at 2"),
@@ -98,7 +98,8 @@ const MOVED: Rows = &[
     ),
 ];
 
-/// Calls that begin the second session of the target, and store the rest of the source's feed in this session.
+/// Calls that begin a second session of the target, which starts at sequence 1, and store the source's feed above
+/// sequence 1 in the session.
 const SECOND_SESSION: Rows = &[
     (Call::Begin(TARGET, S2, FROM_ONE, 12), "begun"),
     (
@@ -141,7 +142,8 @@ fn a_refused_descendant_covers(rt: HostRuntime) {
         (Call::Covered(TARGET, "d", "1-a"), "true"),
         (Call::Record(TARGET, S1, 11), "1"),
     ];
-    // The target has no tree of the document d, so the second session also requests and refuses d.
+    // The target still has no tree of the document d, so its second session requests d, which the target's filter
+    // refuses again.
     const LAST: Rows = &[
         (
             Call::Diff(TARGET, SECOND),
@@ -161,7 +163,8 @@ fn a_refused_descendant_covers(rt: HostRuntime) {
     expect(&rt, rt.alloc(), LISTS);
 }
 
-/// The update sequence that is one less than the maximum. A database with this update sequence can change once.
+/// The update sequence that is one less than the maximum. A database whose update sequence is `LAST_BUT_ONE` can change
+/// only once more.
 const LAST_BUT_ONE: u64 = 9_007_199_254_740_990;
 
 #[test]
@@ -580,7 +583,8 @@ fn a_parcel_of_another_leaf_leaves_its_window_uncovered(rt: HostRuntime) {
     expect(&rt, rt.alloc(), LISTS);
 }
 
-// After the parcel was fetched, another client loads the same document into the target.
+// Another client loads the document d into the target after a parcel with d was fetched, and before the parcel is
+// settled.
 #[test]
 fn a_parcel_of_what_a_third_party_wrote_counts(rt: HostRuntime) {
     const ROWS: Rows = &[
@@ -649,8 +653,8 @@ const TWELVE: Rows = &[
     ),
 ];
 
-/// Calls that begin two sessions at the target. The sessions record the sequences 9 and 5. The source's feed has no row
-/// below sequence 12.
+/// Calls that begin two sessions at the target, one that records the sequence 9 and one that records the sequence 5.
+/// The source's feed has no row below sequence 12.
 const RECORDED: Rows = &[
     (Call::Begin(TARGET, S1, TO_NINE, 10), "begun"),
     (Call::Page(SOURCE, 0, 9), "0 to 9:"),

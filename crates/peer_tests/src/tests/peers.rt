@@ -1,4 +1,5 @@
-//! Calls on peers, and benches that hold peers and the values that calls read and fetched.
+//! Calls on peers, and a test fixture that holds peers, their backups, and the pages, requests and parcels that calls
+//! returned.
 use crate::tests::databases::{
     Held, edit_text, keep_asked, keep_parcel, keep_window, made_text, node, parent_of, put_text,
     tree,
@@ -51,7 +52,7 @@ pub(crate) struct Beginning {
 pub(crate) enum Call<'a> {
     /// Create the next peer with a UUID, and with a filter that refuses document ids with a given prefix.
     Peer(u128, Option<&'a str>),
-    /// Create the bench's next peer, whose database has a given update sequence.
+    /// Create the test's next peer, whose database has a given update sequence.
     PeerAt(u128, Option<&'a str>, u64),
     /// Load a document.
     Load(usize, &'a str),
@@ -100,7 +101,7 @@ pub(crate) enum Call<'a> {
     PutEntry(usize, Rep, SessionId, u64),
     /// Store the target's entry of a session in the source's log of a replication.
     PutEntryOf(usize, Rep, usize, SessionId),
-    /// Back up a peer, and store the backup as the bench's next backup. The call returns the UUID and the update
+    /// Back up a peer, and store the backup as the test's next backup. The call returns the UUID and the update
     /// sequence of the backed-up database.
     Backup(usize),
     /// Restore a peer from a backup.
@@ -139,7 +140,7 @@ pub(crate) type Rows = &'static [(Call<'static>, &'static str)];
 /// prover would process each of these lists separately.
 pub(crate) type Lists = &'static [Rows];
 
-/// A bench: peers, backups of the peers, and the values that were read and fetched from the peers.
+/// The peers of a test, the backups of the peers, and the windows, requests and parcels that calls returned.
 #[derive(Drop)]
 struct Bench {
     alloc: Global,
@@ -149,7 +150,7 @@ struct Bench {
 }
 
 impl Bench {
-    /// Creates a bench without peers.
+    /// Creates the fixture of a test that has no peers yet.
     fn new(alloc: Global) -> Bench {
         Bench {
             alloc,
@@ -243,7 +244,7 @@ fn of_one(alloc: Global, peer: &mut Peer<Rules>, held: &mut Held, call: &Call) -
     }
 }
 
-/// Performs a call that uses one peer, and no other value of the bench.
+/// Performs a call that uses one peer, but no stored window, request or parcel.
 fn of_one_alone(alloc: Global, peer: &mut Peer<Rules>, call: &Call) -> Option<String> {
     match *call {
         Call::Load(_, text) => load(alloc, peer, text),
@@ -345,7 +346,7 @@ pub(crate) fn make(
     made_text(alloc, peers.push(Peer::new(alloc, uuid, rules)).ok())
 }
 
-/// Creates the bench's next peer, whose database has a given update sequence.
+/// Creates the test's next peer, whose database has a given update sequence.
 pub(crate) fn make_at(
     alloc: Global,
     peers: &mut Vec<Peer<Rules>>,
@@ -362,7 +363,7 @@ pub(crate) fn make_at(
     }
 }
 
-/// Reads a page of the feed, and stores the page as the bench's next window.
+/// Reads a page of the feed, and stores the page as the test's next window.
 fn page(
     alloc: Global,
     peer: &Peer<Rules>,
@@ -402,7 +403,8 @@ fn fetched(alloc: Global, peer: &Peer<Rules>, asked: &Asked) -> Option<Parcel> {
     peer.open_revs(alloc, asked).ok()
 }
 
-/// Appends a copy of a window to a session, if the window exists.
+/// Appends a copy of a window to a session. Returns `None` if `window` is `None`, because the test has no window with
+/// the index in the call.
 fn append(
     alloc: Global,
     peer: &mut Peer<Rules>,
@@ -493,7 +495,7 @@ pub(crate) fn source_log(alloc: Global, peer: &Peer<Rules>, rep: &RepId) -> Opti
     log_text(alloc, &log)
 }
 
-/// Performs lists of calls on a new bench, and asserts that each call returns the expected result.
+/// Performs lists of calls, beginning without peers, and asserts that each call returns the expected result.
 pub(crate) fn expect(rt: &impl Abort, alloc: Global, lists: &[Rows]) {
     let mut bench = Bench::new(alloc);
     for calls in lists {

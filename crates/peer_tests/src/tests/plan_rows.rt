@@ -1,17 +1,16 @@
-//! Rows of calls that test plans. The tests cause errors, begin a session, store the session's entry at the source, and
+//! Tests of replication plans. The tests cause errors, begin a session, store the session's entry at the source, and
 //! search for uncovered leaves.
 use crate::tests::peers::{Call, Lists, Rep, Rows, expect};
 use rev_tree::SessionId;
 
-/// The indices of three peers in a bench (a test fixture): the source, the target, and a peer that refuses the document
-/// d.
+/// The indices of three peers in a test: the source, the target, and a peer that refuses the document d.
 const SOURCE: usize = 0;
 
 const TARGET: usize = 1;
 
 const REFUSING: usize = 2;
 
-/// Indices in the bench's lists of windows, requests and parcels. `FIRST` is the index of a list's first item, and
+/// Indices in a test's lists of windows, requests and parcels. `FIRST` is the index of a list's first item, and
 /// `SECOND` is the index of a list's second item.
 const FIRST: usize = 0;
 
@@ -128,7 +127,7 @@ fn a_walk_above_a_sequence(rt: HostRuntime) {
         (Call::HoleAbove(SOURCE, TARGET, 0), "hole 1 d 1-a"),
         (Call::HoleAbove(SOURCE, TARGET, 1), "hole 2 e 1-b"),
         (Call::HoleAbove(SOURCE, TARGET, 2), "clean"),
-        // The call finds no uncovered leaf, because the source's feed has no rows above sequence 9.
+        // The source's feed has no rows above sequence 9, so `HoleAbove` finds no uncovered leaf there.
         (Call::HoleAbove(SOURCE, TARGET, 9), "clean"),
         (Call::HoleAbove(SOURCE, SOURCE, 0), "clean"),
     ];

@@ -1,4 +1,4 @@
-//! Calls on the peers of a bench. The calls perform the steps that all implementations of a replication have in common.
+//! Calls on peers for the steps that all implementations of a replication (one thread or several) have in common.
 use crate::tests::records::fault_text;
 use repl_log::Moment;
 use repl_target::{Peer, Plan, Rules, begin_plan, check_plan, record_at_source};
@@ -65,7 +65,7 @@ pub(crate) fn record(
     let Some(plan) = plan(session, 500, 0) else {
         return None;
     };
-    // `record_at_source` requires that the target has the session.
+    // The contract of `record_at_source` requires that the session exists at the target.
     let Some(_windows) = target.windows(plan.session) else {
         return None;
     };

@@ -17,7 +17,7 @@ use std::sync::atomic::{AtomicBool, Ordering};
 use std::thread;
 use std::thread::{Threads, yield_now};
 
-/// The indices of the source and the target in a bench.
+/// The indices of the source and the target among the peers of a test.
 const A: usize = 0;
 
 const B: usize = 1;
@@ -67,7 +67,8 @@ fn wait_for(told: &AtomicBool) -> bool {
     false
 }
 
-/// A gate that blocks the writer of the first window after the window was settled, until a viewer has read the board.
+/// A gate (a callback) that blocks the writer of the first window after the window was settled, until a viewer has read
+/// the board.
 #[derive(Drop)]
 struct HoldsSettled {
     held: AtomicBool,
@@ -76,7 +77,7 @@ struct HoldsSettled {
 }
 
 impl HoldsSettled {
-    /// Creates the gate with all flags set to false.
+    /// Creates the callback `HoldsSettled`, which has not blocked a writer yet.
     fn new() -> HoldsSettled {
         HoldsSettled {
             held: AtomicBool::new(false),
@@ -100,7 +101,7 @@ impl Gate for HoldsSettled {
     }
 }
 
-/// Reads the board while the gate blocks the writer, and then sets the gate's flag, which releases the writer.
+/// Reads the board while the callback `gate` blocks the writer, and then releases the writer.
 fn read_while_held(board: &Board, gate: &HoldsSettled, viewer: BoardSeat) -> (u64, u64)
     requires { CameWith board.now viewer }
 {
@@ -111,8 +112,8 @@ fn read_while_held(board: &Board, gate: &HoldsSettled, viewer: BoardSeat) -> (u6
     seen
 }
 
-/// Performs a run on a board. A viewer reads the board while the gate blocks the writer. Returns how the run ended, and
-/// the totals that the viewer read from the board.
+/// Performs a run on a board. A viewer reads the board while the callback `gate` blocks the writer. Returns how the run
+/// ended, and the totals that the viewer read from the board.
 fn run_held<R: Abort + Threads + Wait + Sync>(
     rt: &R,
     bench: &mut Bench,
@@ -288,7 +289,7 @@ fn progress_shown(rt: HostRuntime) {
     assert_eq!(rt; board.read(&mut viewer), (2, 2));
 }
 
-// If the pool updated the board only at the end of a run, the viewer of this test would see no progress while the
+// The test detects a pool that updates the board only at the end of a run, because a viewer reads the board while the
 // writer is blocked.
 #[test]
 fn progress_seen_beside_a_held_writer(rt: HostRuntime) {

@@ -1,5 +1,5 @@
-//! Tests of pool runs in which a gate (a function that the workers call at each stage of a window) stops or blocks a
-//! worker.
+//! Tests of replications with one or several workers (threads), in which a gate (a callback at each stage of a window)
+//! stops or blocks a worker.
 use crate::tests::peers::Rep;
 use crate::tests::pool_rows::{CARRIED, DOCUMENTS, OPEN_PEERS};
 use crate::tests::pools::{Bench, Call, How, Rows};
@@ -12,7 +12,7 @@ use std::sync::Wait;
 use std::sync::atomic::{AtomicBool, AtomicU64, Ordering};
 use std::thread::{Threads, yield_now};
 
-/// The indices of the source and the target in a bench.
+/// The indices of the source and the target among the peers of a test.
 const A: usize = 0;
 
 const B: usize = 1;
@@ -39,7 +39,7 @@ const AGAIN: How = How {
     ..TWO_ROWS
 };
 
-/// The maximum number of times a gate polls while the gate blocks a worker.
+/// The maximum number of times a blocked worker polls a flag.
 const TURNS: u32 = 1_000_000;
 
 /// Calls that create an empty target, and a source with four documents of one revision each.
@@ -63,8 +63,8 @@ fn hold(told: &AtomicBool, ran_out: &AtomicBool) {
     ran_out.store(true, Ordering::SeqCst);
 }
 
-/// A gate that blocks the first window's fetcher until the second window is recorded. The gate also stores the sequence
-/// that is recorded with the second window, and the sequence that is recorded with the first window.
+/// A callback of the workers that blocks the fetcher of the first window until the second window is recorded.
+/// `HoldsFetched` stores the two sequences that workers record with the first window and with the second window.
 #[derive(Drop)]
 struct HoldsFetched {
     second: AtomicBool,
@@ -74,7 +74,7 @@ struct HoldsFetched {
 }
 
 impl HoldsFetched {
-    /// Creates the gate with all flags set to false.
+    /// Creates the callback `HoldsFetched`, which has not blocked a fetcher yet.
     fn new() -> HoldsFetched {
         HoldsFetched {
             second: AtomicBool::new(false),
@@ -102,20 +102,21 @@ impl Gate for HoldsFetched {
     }
 }
 
-/// A gate that stops a run once, when a worker comes to a given stage of a given window. The five stages of a window
-/// have the numbers 0 (`Took`), 1 (`Asked`), 2 (`Fetched`), 3 (`Settled`) and 4 (`Recorded`).
+/// A callback that stops a run once, when a worker reaches the stage `kind` of the window `window`. The five stages of
+/// a window have the numbers 0 (`Took`), 1 (`Asked`), 2 (`Fetched`), 3 (`Settled`) and 4 (`Recorded`).
 #[derive(Drop)]
 struct StopsOnce {
     kind: u64,
     window: u64,
-    /// The value that `Gate::may_block` returns. The gate never blocks a worker, even if `may_block` returns true. If
-    /// `may_block` returns true, each worker is a separate thread, even if there are few workers.
+    /// The value that `Gate::may_block` returns. The callback `StopsOnce::at` never blocks a worker, even if
+    /// `may_block` is true. If `may_block` returns true, each worker is a separate thread, even if there are few
+    /// workers.
     may_block: bool,
     stopped: AtomicBool,
 }
 
 impl StopsOnce {
-    /// Creates a gate that has not stopped a run yet.
+    /// Creates the callback that stops the run at the stage `kind` of the window `window`.
     fn new(kind: u64, window: u64, may_block: bool) -> StopsOnce {
         StopsOnce {
             kind,
@@ -126,8 +127,7 @@ impl StopsOnce {
     }
 }
 
-/// Returns the two numbers of a place (a point at which a worker calls the gate): the number of the stage, and the
-/// number of the window.
+/// Returns two numbers for a stage of a window: the number of the stage, and the number of the window.
 pub(crate) fn kind_of(place: Place) -> (u64, u64) {
     match place {
         Place::Took(window) => (0, window),
@@ -156,8 +156,8 @@ impl Gate for StopsOnce {
     }
 }
 
-/// A gate that counts how often the workers of a run record the session. The windows of the run must have one row each.
-/// The gate also stores whether a worker recorded a low water that was not the end of the worker's window.
+/// A callback of the workers that counts how often a run records its session. The windows of the run must have one row
+/// each. The field `other` says whether a worker recorded a low water other than the end of the worker's window.
 #[derive(Drop)]
 struct CountsRecordings {
     count: AtomicU64,
@@ -210,8 +210,8 @@ fn windows_done_out_of_order(rt: HostRuntime) {
     assert_eq!(rt; gate.at_first.load(Ordering::SeqCst), 4);
 }
 
-// This test detects a run that returns the session's count of read documents as the count of fetched documents. In this
-// test, the session has read 0 documents.
+// The stopped run has fetched two documents, but the session has read 0 documents. A run that returns the number of
+// read documents instead of the number of fetched documents fails the test.
 #[test]
 fn fetched_is_counted_where_a_run_stops(rt: HostRuntime) {
     const HALTED: &str = "Halted(Fetched(0)), fetched 2";
@@ -245,8 +245,8 @@ static CLEAN: Rows = &[(Call::Audit(A, B), "clean")];
 
 static AT_GOAL: Rows = &[(Call::Common(A, B, REP), "11")];
 
-/// Asserts that the gate stops a run at a stage of a window, and that an audit of the stopped run finds no uncovered
-/// leaf.
+/// Asserts that the callback `gate` stops a run at the stage `kind` of the window `window`. Asserts that an audit after
+/// the stopped run finds no uncovered leaf.
 pub(crate) fn expect_stop<G: Gate + Sync, R: Abort + Threads + Wait + Sync>(
     rt: &R,
     alloc: Global,
@@ -280,8 +280,8 @@ pub(crate) fn go_on<R: Abort + Threads + Wait + Sync>(rt: &R, alloc: Global, ben
     bench.run(rt, AT_GOAL);
 }
 
-/// Performs a run that a gate stops at a stage of a window, and a second run that completes the replication. The
-/// parameter `may_block` is the value that `Gate::may_block` returns.
+/// Performs a run that a callback stops at the stage `kind` of the window `window`, and a second run that completes the
+/// replication. The parameter `may_block` is the value that `Gate::may_block` returns.
 fn stop_and_go_on<R: Abort + Threads + Wait + Sync>(
     rt: &R,
     alloc: Global,
@@ -299,8 +299,8 @@ fn stop_and_go_on<R: Abort + Threads + Wait + Sync>(
     bench.run(rt, CARRIED);
 }
 
-// The test performs runs with two fetchers and two writers, with two pairs of a fetcher and a writer, and with one
-// worker on the caller's thread.
+// The test's runs use two fetcher threads and two writer threads, or two threads that fetch and write in turn, or only
+// the caller's thread.
 #[test]
 fn a_stop_at_each_place(rt: HostRuntime) {
     for kind in 0..5u64 {

@@ -1,5 +1,6 @@
-//! Tests of pool runs with two kinds of gates. The first gate counts how often workers call the gate. The second gate
-//! blocks a worker at a stage of a window until another worker has reached a given stage of a given window.
+//! Tests of replications with two gates (callbacks that one or several workers call at each stage of a window). The
+//! callback `Counts` counts how often workers call it. The callback `Orders` blocks a worker at a stage of a window
+//! until another worker has reached a stage that a table names.
 use crate::tests::pool_gates::kind_of;
 use crate::tests::pools::{Bench, Call, How, Rows};
 use crate::tests::texts::expect_answer;
@@ -11,7 +12,7 @@ use std::sync::Wait;
 use std::sync::atomic::{AtomicBool, AtomicU64, Ordering};
 use std::thread::{Threads, yield_now};
 
-/// The indices of the source and the target in a bench.
+/// The indices of the source and the target among the peers of a test.
 const A: usize = 0;
 
 const B: usize = 1;
@@ -26,14 +27,14 @@ const fn in_windows_of(batch: u64) -> How {
     }
 }
 
-/// A gate that counts, for each window, how often workers call the gate. The gate also counts the calls that workers
+/// A callback of the workers that counts its calls for each window. The field `strays` counts the calls that workers
 /// make out of order.
 #[derive(Drop)]
 struct Counts {
     places: Vec<AtomicU64>,
     strays: AtomicU64,
-    /// The value that `Gate::may_block` returns. The gate never blocks a worker, even if `may_block` returns true. If
-    /// `may_block` returns true, each worker is a separate thread, even if there are few workers.
+    /// The value that `Gate::may_block` returns. The callback `Counts::at` never blocks a worker, even if `may_block`
+    /// is true. If `may_block` returns true, each worker is a separate thread, even if there are few workers.
     may_block: bool,
 }
 
@@ -51,7 +52,7 @@ impl Counts {
         }
     }
 
-    /// Returns the number of windows for which the gate was called five times.
+    /// Returns the number of windows for which workers called the callback five times (a window has five stages).
     fn gone_through(&self) -> usize {
         let mut windows = 0usize;
         for places in &self.places {
@@ -83,8 +84,8 @@ impl Gate for Counts {
     }
 }
 
-/// Asserts that a run calls the gate exactly once at each stage of each window, in order. The parameter `may_block` is
-/// the value that `Gate::may_block` returns.
+/// Asserts that the workers of a run call their callback exactly once at each stage of each window, in order. The
+/// parameter `may_block` is the value that `Gate::may_block` returns.
 fn expect_in_order<R: Abort + Threads + Wait + Sync>(
     rt: &R,
     alloc: Global,
@@ -112,9 +113,9 @@ fn expect_in_order<R: Abort + Threads + Wait + Sync>(
     assert_eq!(rt; bench.fetchers() as u64, workers);
 }
 
-// A call at a stage of a window is in order if the gate was called exactly once for each earlier stage of the window.
-// The test performs runs with separate fetchers and writers, with pairs of a fetcher and a writer, and with one worker
-// on the caller's thread.
+// A call of the callback at a stage of a window is in order if each earlier stage of the window had one call. The
+// test's runs use four fetcher threads and four writer threads, or four threads that fetch and write in turn, or only
+// the caller's thread.
 #[test]
 fn each_place_once_and_in_order(rt: HostRuntime) {
     expect_in_order(&rt, rt.alloc(), 4, true);
@@ -125,8 +126,8 @@ fn each_place_once_and_in_order(rt: HostRuntime) {
 /// A stage of a window: the number of the stage, from 0, and the number of the window.
 type Spot = (u64, u64);
 
-/// A list of pairs, in which each item of a pair is a stage of a window. A worker at the first stage of a pair waits
-/// until a worker has reached the second stage.
+/// A list of pairs, in which each item of a pair is a stage of a window. A worker that reaches the first stage of a
+/// pair waits until another worker has reached the second stage of the pair.
 type Holds = &'static [(Spot, Spot)];
 
 /// Returns the bit that represents a stage of one of the first twelve windows.
@@ -138,8 +139,8 @@ pub(crate) fn bit_of(spot: Spot) -> u64 {
 /// The maximum number of times a blocked worker polls.
 const TURNS: u32 = 1_000_000;
 
-/// A gate that blocks a worker at the first stage of each pair in a table, until another worker has reached the second
-/// stage of the pair.
+/// A callback that makes a worker at the first stage of a pair in `holds` wait until another worker has reached the
+/// pair's second stage.
 #[derive(Drop)]
 struct Orders {
     holds: Holds,
@@ -148,7 +149,7 @@ struct Orders {
 }
 
 impl Orders {
-    /// Creates the gate, which no worker has called yet.
+    /// Creates the callback `Orders`, which no worker has called yet.
     fn new(holds: Holds) -> Orders {
         Orders {
             holds,
@@ -186,8 +187,8 @@ impl Gate for Orders {
     }
 }
 
-/// Performs a run of eight documents in windows of two rows, with one fetcher and one writer. The gate blocks the
-/// fetcher and the writer at the stages in `holds`.
+/// Performs a run of eight documents in windows of two rows, with one fetcher and one writer. The callback `Orders`
+/// blocks the fetcher and the writer at the stages in `holds`.
 fn run_held<R: Abort + Threads + Wait + Sync>(rt: &R, alloc: Global, holds: Holds) {
     const WELL: &str =
         "session 1 from 0 to 8 checked 8 found 8 read 8 written 8 failed 0, fetched 8";
@@ -195,8 +196,8 @@ fn run_held<R: Abort + Threads + Wait + Sync>(rt: &R, alloc: Global, holds: Hold
         (Call::Peer(1, None), "made"),
         (Call::Peer(2, None), "made"),
         (Call::Fill(A, 8), "Changed { seq: 8 }"),
-        // The target has the document `own`, because the pool takes no lock to compute the requests of a target without
-        // documents.
+        // If the target had no documents, the pool would compute requests without the target's lock, so the target
+        // first gets the document `own`.
         (
             Call::Load(B, r#"{"_id":"own","_rev":"1-a"}"#),
             "Changed { seq: 1 }",
@@ -230,30 +231,30 @@ const RECORDED: u64 = 4;
 #[test]
 fn no_lock_is_held_at_any_place(rt: HostRuntime) {
     static HOLDS: Holds = &[
-        // While the gate blocks the writer at the stage `Settled` of the first window, the fetcher requests the second
-        // window.
+        // While the callback blocks the writer at the stage `Settled` of the first window, the fetcher requests the
+        // second window.
         ((TOOK, 1), (SETTLED, 0)),
         ((SETTLED, 0), (ASKED, 1)),
-        // While the gate blocks the fetcher at the stage `Asked` of the second window, the writer records the first
+        // While the callback blocks the fetcher at the stage `Asked` of the second window, the writer records the first
         // window.
         ((ASKED, 1), (RECORDED, 0)),
-        // The gate blocks the writer until the fetcher has reached the stage `Took` of the third window. While the gate
-        // then blocks the fetcher at this stage, the writer settles the second window.
+        // The callback blocks the writer until the fetcher has reached the stage `Took` of the third window. While the
+        // callback blocks the fetcher at the stage `Took` of the third window, the writer settles the second window.
         ((RECORDED, 0), (TOOK, 2)),
         ((TOOK, 2), (SETTLED, 1)),
-        // While the gate blocks the fetcher at the stage `Fetched` of the third window, the writer records the second
-        // window.
+        // While the callback blocks the fetcher at the stage `Fetched` of the third window, the writer records the
+        // second window.
         ((SETTLED, 1), (FETCHED, 2)),
         ((FETCHED, 2), (RECORDED, 1)),
-        // While the gate blocks the writer at the stage `Recorded` of the second window, the fetcher requests the last
-        // window.
+        // While the callback blocks the writer at the stage `Recorded` of the second window, the fetcher requests the
+        // last window.
         ((RECORDED, 1), (ASKED, 3)),
     ];
     run_held(&rt, rt.alloc(), HOLDS);
 }
 
-// While the gate blocks the writer, the fetcher fetches further windows, because fetching does not depend on the
-// writer.
+// While the callback blocks the writer at the first window, the fetcher fetches two more windows, because fetching does
+// not depend on the writer.
 #[test]
 fn fetching_goes_on_beside_a_held_writer(rt: HostRuntime) {
     static HOLDS: Holds = &[((SETTLED, 0), (FETCHED, 2))];

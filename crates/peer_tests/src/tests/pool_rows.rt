@@ -3,7 +3,7 @@ use crate::tests::peers::Rep;
 use crate::tests::pools::{Call, Rows};
 use rev_tree::SessionId;
 
-/// The indices of the source and the target in a bench.
+/// The indices of the source and the target among the peers of a test.
 const A: usize = 0;
 
 const B: usize = 1;
@@ -123,7 +123,7 @@ pub(crate) static CARRIED: Rows = &[
 ];
 
 /// Calls that read both peers after the first session of a replication whose target refuses two documents. The results
-/// are the same for every order in which the session's windows become done.
+/// of the calls `SIFTED` do not depend on the order in which the session's windows become done.
 pub(crate) static SIFTED: Rows = &[
     (
         Call::Entry(B, S1),

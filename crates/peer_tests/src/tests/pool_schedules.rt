@@ -1,5 +1,5 @@
-//! Tests of pool runs in which the workers run in a random order. The gate of a run blocks all workers, and releases
-//! one worker at a time.
+//! Tests of pool runs in which the workers run in a random order. The gate (a callback) of a run blocks all workers,
+//! and releases one worker at a time.
 use crate::tests::peers::Rep;
 use crate::tests::pool_gates::{expect_stop, go_on, kind_of};
 use crate::tests::pool_orders::bit_of;
@@ -15,7 +15,7 @@ use std::sync::{Mutex, Wait};
 use std::thread::Threads;
 use std::time::Duration;
 
-/// The indices of the source and the target in a bench.
+/// The indices of the source and the target among the peers of a test.
 const A: usize = 0;
 
 const B: usize = 1;
@@ -33,20 +33,20 @@ const WINDOWS: u64 = 3;
 
 const WORKERS: u64 = 2;
 
-/// The number of places (points at which a worker calls the gate) in a run: five for each window.
+/// The number of stages of windows in a run: five for each of the three windows.
 const PLACES: u64 = 15;
 
-/// Bit masks. `FETCHED` has a bit for the place `Fetched` of each window, and `RECORDED` has a bit for the place
+/// Bit masks. `FETCHED` has a bit for the stage `Fetched` of each window, and `RECORDED` has a bit for the stage
 /// `Recorded` of each window.
 const FETCHED: u64 = 0b001_0000_1000_0100;
 
 const RECORDED: u64 = 0b100_0010_0001_0000;
 
-/// After blocked workers have slept this number of times, the gate releases a worker even if an expected worker has not
-/// called the gate.
+/// The number of sleeps of blocked workers after which the callback `Drawn` releases one of them without waiting for
+/// further workers.
 const SURE_NAPS: u32 = 20_000;
 
-/// The maximum number of times a blocked worker checks whether the gate has released the worker.
+/// The maximum number of times a blocked worker checks whether it is released.
 const LOOKS: u32 = 1_000_000;
 
 /// Returns the next state of Knuth's linear congruential generator.
@@ -61,8 +61,8 @@ fn bits(number: u64) -> u64 {
     u64::from(number.count_ones())
 }
 
-/// Returns the n-th place, counted from 0, at which a worker is blocked. The places are ordered by window, and then by
-/// stage.
+/// Returns the number of the n-th stage, counted from 0, at which a worker is blocked. The stages of all windows are
+/// numbered from 0, window by window.
 fn nth_held(held: u64, nth: u64) -> u64 {
     let mut passed = 0u64;
     for place in 0..PLACES {
@@ -76,35 +76,36 @@ fn nth_held(held: u64, nth: u64) -> u64 {
     0
 }
 
-/// The state of the gate: the places at which workers are blocked, the places that workers have left, and the place
-/// whose worker may run.
+/// The state of the callback `Drawn`: which stages of windows have a blocked worker, which stages workers have left,
+/// and which worker may run.
 #[derive(Clone, Copy)]
 struct Turns {
     /// The state of the random generator that chooses the next worker.
     chance: u64,
     held: u64,
     left: u64,
-    /// The place whose worker may run, or 0 if no worker is chosen.
+    /// The bit (`bit_of`) of the stage whose blocked worker may run, or 0 if no worker is chosen.
     chosen: u64,
-    /// The number of times that any blocked worker has slept since the gate last blocked or released a worker.
+    /// The total number of sleeps of blocked workers since a worker was last blocked or released.
     naps: u32,
-    /// The place at which the gate stops a worker, or 0 if the gate stops no worker.
+    /// The bit (`bit_of`) of the stage at which a worker is stopped, or 0 if no worker is stopped.
     stop_at: u64,
-    /// The numbers of the places that workers have left, in the order in which the workers left. Each place's number,
-    /// increased by 1, takes four bits.
+    /// The order in which workers were chosen to run: a hexadecimal digit for each chosen worker. A chosen worker's
+    /// digit is 1 plus the number of the worker's stage, counted from 0 over all windows.
     order: u64,
     ran_out: bool,
 }
 
 impl Turns {
-    /// Returns the number of workers that will certainly call the gate, and the number of workers that may call the
-    /// gate.
+    /// Returns a lower and an upper bound of the number of workers that will be blocked in the callback if it releases
+    /// no worker.
     ///
-    /// A fetcher has a window until the fetcher has passed the place `Fetched`. A writer has a parcel until the writer
-    /// has passed the place `Recorded`. A fetcher that finds no further window sends an end message to a writer,
-    /// perhaps before the other fetcher sends the last parcel. If all three windows are fetched and one window is
-    /// recorded, one writer may have ended. The other writer then handles both remaining windows. If the gate (a
-    /// function that the workers call) stops a worker, this worker drops all further messages.
+    /// A fetcher has a window until the fetcher has passed the stage `Fetched`. A writer has a parcel until the writer
+    /// has passed the stage `Recorded`. A fetcher that finds no further window sends an end message to a writer,
+    /// perhaps while another fetcher still has the last window. After the run's three windows are fetched and one is
+    /// recorded, one of the two writers may have ended because of an end message. If one of the two writers has ended,
+    /// the remaining writer handles all remaining windows. If the callback stops a worker, this worker drops all
+    /// further messages.
     fn awaited(&self) -> (u64, u64) {
         let fetched = bits(self.left & FETCHED);
         let recorded = bits(self.left & RECORDED);
@@ -121,10 +122,10 @@ impl Turns {
     }
 
     /// Chooses one of the blocked workers at random, and returns whether a worker was chosen. The counter `naps` is the
-    /// number of times that any blocked worker has slept since the gate last blocked or released a worker. If the
-    /// counter `naps` is 0, the function chooses a worker only if all workers that may call the gate are blocked. If
-    /// the counter `naps` is below `SURE_NAPS`, the function chooses a worker only if all workers that will certainly
-    /// call the gate are blocked.
+    /// total number of sleeps of blocked workers since a worker was last blocked or released. While `naps` is 0,
+    /// `choose` chooses a worker only if all workers that may call the callback are blocked in it. While `naps` is
+    /// below `SURE_NAPS`, `choose` chooses a worker only if all workers that will certainly call the callback are
+    /// blocked in it.
     fn choose(&mut self) -> bool {
         let held = bits(self.held);
         if held == 0 {
@@ -146,7 +147,8 @@ impl Turns {
         true
     }
 
-    /// Returns whether the worker at the place `here` may run now, and whether the call has chosen the next worker.
+    /// Returns whether the worker at the stage `here` is released, and whether `look` has chosen the worker that is
+    /// released next.
     fn look(&mut self, here: u64) -> (bool, bool) {
         let goes = self.chosen == here;
         if goes {
@@ -159,7 +161,7 @@ impl Turns {
         (goes, chose)
     }
 
-    /// Records that a worker has called the gate at the place `here` (a stage of a window).
+    /// Records that a worker is blocked in the callback at the stage `here` of a window.
     fn come(&mut self, here: u64) {
         self.held |= here;
         self.naps = 0;
@@ -171,18 +173,20 @@ impl Turns {
     }
 }
 
-/// A gate that releases one randomly chosen worker at a time, and stops the worker that comes to a given place.
+/// A callback that blocks all workers, and releases one randomly chosen worker at a time. `Drawn` stops the worker that
+/// reaches the stage `stop_at`.
 #[derive(Drop)]
 struct Drawn {
     stop_at: u64,
     turns: Mutex<Turns>,
-    /// A counter on which blocked workers sleep, and which is increased when a worker is chosen.
+    /// A counter of the workers that were chosen to run. Blocked workers sleep until the counter changes or a
+    /// millisecond has passed.
     bell: AtomicU64,
     ran_out: AtomicBool,
 }
 
 impl Drawn {
-    /// Creates the gate, which no worker has called yet.
+    /// Creates the callback `Drawn`, which no worker has called yet.
     fn new(seed: u64, stop_at: u64) -> Drawn {
         Drawn {
             stop_at,
@@ -201,12 +205,12 @@ impl Drawn {
         }
     }
 
-    /// Records that a worker has called the gate at the place `here` (a stage of a window).
+    /// Records that a worker is blocked in the callback at the stage `here` of a window.
     fn come<R: Wait>(&self, rt: &R, here: u64) {
         self.turns.lock(rt).come(here);
     }
 
-    /// Whether the gate lets the worker at a place run now.
+    /// Whether the worker that is blocked at the stage `here` of a window is released now.
     fn goes<R: Wait>(&self, rt: &R, here: u64) -> bool {
         let (goes, chose) = self.turns.lock(rt).look(here);
         if chose {
@@ -225,8 +229,8 @@ impl Drawn {
         }
     }
 
-    /// Blocks the worker at a place until the gate releases the worker. After `LOOKS` checks, the function stops and
-    /// sets the flag `ran_out`.
+    /// Blocks the worker at the stage `here` of a window until the worker is chosen to run. After `LOOKS` checks, the
+    /// function stops and sets the flag `ran_out`.
     fn hold<R: Wait>(&self, rt: &R, here: u64) {
         for _ in 0..LOOKS {
             let rung = self.bell.load(Ordering::SeqCst);
@@ -238,8 +242,9 @@ impl Drawn {
         self.ran_out.store(true, Ordering::SeqCst);
     }
 
-    /// Returns the order in which the gate chose the workers to run. Also returns whether the gate chose a worker
-    /// before each expected worker was blocked, or a blocked worker stopped waiting.
+    /// Returns the order in which workers were chosen to run, and whether a wait took too long. A wait took too long if
+    /// blocked workers slept `SURE_NAPS` times waiting for another worker, or if one worker checked `LOOKS` times for
+    /// its release.
     fn end(self) -> (u64, bool) {
         let turns = self.turns.into_inner();
         (turns.order, turns.ran_out || self.ran_out.into_inner())
@@ -261,7 +266,8 @@ impl Gate for Drawn {
     }
 }
 
-/// Performs a run into a target that refuses three leaves, in the order that a seed determines. Returns the order.
+/// Performs a run whose workers run in an order that the seed determines, into a target that refuses three leaves.
+/// Returns the order in which the workers ran.
 fn run_drawn<R: Abort + Threads + Wait + Sync>(rt: &R, alloc: Global, seed: u64) -> u64 {
     const WELL: &str =
         "session 1 from 0 to 11 checked 10 found 10 read 10 written 7 failed 3, fetched 10";
@@ -294,8 +300,8 @@ fn different(sorted: &[u64]) -> u64 {
 const SEEDS: u64 = 250;
 
 /// Performs one run for each of `SEEDS` seeds, and asserts that the runs have more than `SEEDS` / 2 different orders.
-// The order in which the gate releases the workers of a run affects only the target's sequences. Apart from the
-// target's sequences, all values that the test reads after a run are the same for every order.
+// The order in which the workers of a run are released affects only the sequences of the documents at the target. All
+// values that the calls `SIFTED` read after a run are the same for every order of the workers.
 fn run_orders<R: Abort + Threads + Wait + Sync>(rt: &R, alloc: Global, first: u64) {
     let mut orders = Vec::new(alloc);
     for number in 0..SEEDS {
@@ -327,8 +333,8 @@ fn last_orders_end_alike(rt: HostRuntime) {
     run_orders(&rt, rt.alloc(), 750);
 }
 
-/// Performs a run that the gate stops at one place, in an order that the seed determines. A second run then completes
-/// the replication.
+/// Performs a run that stops at one stage of a window. The seed determines the stage at which the run stops, and the
+/// order in which the workers run. A second run completes the replication that the stopped run began.
 fn stop_drawn<R: Abort + Threads + Wait + Sync>(rt: &R, alloc: Global, seed: u64) {
     let (kind, window) = (seed % 5, seed / 5 % WINDOWS);
     let gate = Drawn::new(seed, bit_of((kind, window)));
@@ -342,7 +348,7 @@ fn stop_drawn<R: Abort + Threads + Wait + Sync>(rt: &R, alloc: Global, seed: u64
     assert!(rt; !ran_out, "out of turns at {seed}");
 }
 
-/// Stops a run for each of 150 seeds, so that ten runs stop at each place.
+/// Performs 150 runs with different seeds, of which ten stop at each of the 15 stages of windows.
 fn stop_orders<R: Abort + Threads + Wait + Sync>(rt: &R, alloc: Global, first: u64) {
     for number in 0..150u64 {
         stop_drawn(rt, alloc, first.saturating_add(number));

@@ -1,4 +1,4 @@
-//! Calls on peers that the pool replicates, and benches that hold these peers.
+//! Calls on peers that one or several threads replicate, and the test fixture that holds the peers of a test.
 ghost use Rattle.std.specs.Prelude.{◌≡◌, vec_len};
 ghost use Rattle.std.specs.List.{All};
 ghost use Rattle.pool_workers.specs.Boards.{WorksAt};
@@ -24,7 +24,7 @@ use test_support::shown;
 #[derive(Clone, Copy)]
 pub(crate) struct How {
     pub(crate) session: SessionId,
-    /// The number of workers, or `None` for the bench's number of workers.
+    /// The number of workers, or `None` for the test's number of workers.
     pub(crate) workers: Option<u64>,
     pub(crate) batch: u64,
     pub(crate) stop_after: Option<u64>,
@@ -41,7 +41,7 @@ pub(crate) enum Call<'a> {
     Fill(usize, u64),
     /// Load a document.
     Load(usize, &'a str),
-    /// Replicate one peer into another peer by the pool.
+    /// Replicate one peer into another peer with a pool of threads.
     Run(usize, usize, How),
     /// Read the tree of a document.
     Tree(usize, &'a str),
@@ -64,7 +64,7 @@ pub(crate) enum Call<'a> {
 /// The calls of a test, each with the expected result.
 pub(crate) type Rows = &'static [(Call<'static>, &'static str)];
 
-/// A bench: peers, and the number of workers of a run.
+/// The peers of a test, and the number of workers of a run.
 #[derive(Drop)]
 pub(crate) struct Bench {
     alloc: Global,
@@ -74,7 +74,7 @@ pub(crate) struct Bench {
 }
 
 impl Bench {
-    /// Creates a bench without peers.
+    /// Creates the fixture of a test that has no peers yet.
     pub(crate) fn new(alloc: Global, workers: u64) -> Bench {
         Bench {
             alloc,
@@ -149,19 +149,19 @@ impl Bench {
         })
     }
 
-    /// Takes a peer from the bench.
+    /// Takes the peer at an index out of the list of the test's peers, and leaves an empty peer there.
     fn taken(&mut self, rt: &impl Abort, at: usize) -> Peer<Rules> {
         let empty = Peer::new(self.alloc, 0, Rules { deny: None });
         mem::replace(self.peers.get_mut(at).expect(rt, "a peer"), empty)
     }
 
-    /// Stores a peer in the bench after a run.
+    /// Stores a peer in the list of the test's peers again, after a run.
     fn give(&mut self, rt: &impl Abort, at: usize, peer: Peer<Rules>) {
         *self.peers.get_mut(at).expect(rt, "a place") = peer;
     }
 
-    /// Replicates one peer into another peer by the pool, with a gate. Returns how the run ended, and the number of
-    /// fetched documents.
+    /// Replicates one peer into another peer with a pool of threads, which call the callback `gate` at each stage of a
+    /// window. Returns how the run ended, and the number of fetched documents.
     pub(crate) fn replicate<G: Gate + Sync, R: Abort + Threads + Wait + Sync>(
         &mut self,
         rt: &R,
@@ -326,7 +326,7 @@ fn outcome_text(alloc: Global, outcome: Result<Report, PoolFault>) -> Option<Str
     }
 }
 
-/// Loads the document whose id has a given number.
+/// Loads a document whose id consists of the letter d and a number.
 fn load_number(alloc: Global, peer: &mut Peer<Rules>, number: u64) -> Option<String> {
     match format!(in alloc; "{{\"_id\":\"d{number}\",\"_rev\":\"1-a\"}}") {
         Ok(text) => load(alloc, peer, text.as_str()),

@@ -1,5 +1,5 @@
-//! Rows of calls that test `repl_inspect`. The calls compare leaves, and read conflicts, ledgers and counts. One
-//! document has 1,000 leaves.
+//! Tests of the crate `repl_inspect`, which compares the leaves of two peers, and reads conflicts, ledgers and counts.
+//! One test has a document with 1,000 leaves.
 use crate::tests::surveys::{Call, Rows, expect};
 
 #[test]
@@ -20,7 +20,7 @@ fn what_a_target_misses(rt: HostRuntime) {
         // The target has neither of the source's two documents.
         (Call::Compare("d"), "2 missing 3-d 2-c differing"),
         (Call::Compare("e"), "1 missing 1-a differing"),
-        // Neither peer has the document f.
+        // The document f exists neither at the source nor at the target.
         (Call::Compare("f"), "0 missing differing"),
         // The source and the target have different parents of the revision 2-b, and different bodies of the revision
         // 2-c.

@@ -19,7 +19,7 @@ use test_support::{rev_text, shown};
 /// The only session.
 const SESSION: SessionId = SessionId(1);
 
-/// A call on the two peers.
+/// A call on a source, on a target into which the source is replicated, or on both.
 #[derive(Clone, Copy)]
 pub(crate) enum Call<'a> {
     /// Load a document into the source.
@@ -219,7 +219,8 @@ fn leaves_text(alloc: Global, found: &Comparison) -> Option<String> {
     format!(in alloc; "{} missing", found.leaves()).ok()
 }
 
-/// Returns the text of the contradicting child, or an empty string if there is none.
+/// Returns the text of the revision with different parents at source and target, or an empty string if there is no such
+/// revision.
 fn contradiction_text(alloc: Global, found: &Comparison) -> Option<String> {
     match found.contradiction() {
         Some(told) => joined(plain(alloc, " contradicts "), rev_text(alloc, told.child)),
@@ -249,8 +250,7 @@ fn ledger(alloc: Global, rows: &[Refused]) -> Option<String> {
     all
 }
 
-/// Creates a bench (a test fixture) with a source and a target that have no documents. The target refuses documents
-/// whose ids begin with x.
+/// Creates a source and a target that have no documents. The target refuses documents whose ids begin with x.
 fn two_peers(rt: &impl Abort, alloc: Global) -> Bench {
     let deny = "x".to_string(alloc).expect(rt, "memory");
     Bench {

@@ -35,8 +35,8 @@ pub(crate) fn body(alloc: Global, text: &str) -> Option<Body> {
     read_body(alloc, &value).ok()
 }
 
-/// Concatenates two strings, or returns `None` if a string is missing. A caller that joins many strings can therefore
-/// check for a missing string once, at the end.
+/// Concatenates two strings, or returns `None` if a string is missing. A caller that joins many strings needs to check
+/// for `None` only once, at the end.
 pub(crate) fn joined(all: Option<String>, text: Option<String>) -> Option<String> {
     let (Some(mut all), Some(text)) = (all, text) else {
         return None;
@@ -172,7 +172,8 @@ fn parent_text(alloc: Global, tree: &Tree, rev: Rev) -> Option<String> {
     }
 }
 
-/// Returns the text of an origin, with a comma before and after the text, or `None` if no origin is given.
+/// Returns the text of a revision's origin (the write that added the revision) between commas, or `None` if `origin` is
+/// `None`.
 fn origin_text(alloc: Global, origin: Option<Origin>) -> Option<String> {
     match origin {
         Some(origin) => format!(in alloc; ", {origin:?}, ").ok(),

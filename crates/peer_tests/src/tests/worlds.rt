@@ -1,4 +1,4 @@
-//! Performs steps, which have names, in a world, and reads the state of the world after the steps.
+//! Performs steps on two peers and the messages between them (a `World`), and reads the state after the steps.
 use crate::tests::databases::tree;
 use crate::tests::peers::{agreed, entry, source_log, target_log};
 use crate::tests::texts::{body, doc, expect_answer};
@@ -11,14 +11,15 @@ use std::alloc::{AllocError, Global};
 use std::process::Abort;
 use test_support::rev;
 
-/// The replication from a world's source, with UUID 1, into the world's target, with UUID 2.
+/// The replication from the source of a test, with UUID 1, into the target, with UUID 2.
 const REP: RepId = RepId {
     source: 1,
     target: 2,
     chosen: None,
 };
 
-/// A step of a world, in which documents are given as strings. All timestamps are 0.
+/// A step of a test that is written with strings for ids, revisions and documents, and is converted to a `Step`. All
+/// timestamps are 0.
 #[derive(Clone, Copy)]
 pub(crate) enum Act<'a> {
     /// Edit a document at the source, given the document's id, the parent revision and the body.
@@ -44,12 +45,13 @@ pub(crate) enum Act<'a> {
     Crash,
 }
 
-/// A question about a world. Side 1 is the source, and side 2 is the target.
+/// A question about the source, the target or the messages in transit, which a test asks after its steps. Side 1 is the
+/// source, and side 2 is the target.
 #[derive(Clone, Copy)]
 pub(crate) enum Question<'a> {
     /// The common checkpoint of the two logs.
     Common,
-    /// The entry of a session.
+    /// The target's log entry of a session.
     Entry(SessionId),
     /// The log that a side (source or target) has of the replication.
     Log(u128),
@@ -66,7 +68,7 @@ pub(crate) enum Question<'a> {
 /// Steps in order.
 pub(crate) type Acts = &'static [Act<'static>];
 
-/// Questions about a world, each with the expected result.
+/// Questions that a test asks after its steps, each with the expected result.
 pub(crate) type Told = &'static [(Question<'static>, &'static str)];
 
 /// Creates the timestamp 0.
@@ -74,7 +76,7 @@ fn at_0() -> Option<Moment> {
     Moment::new(0).ok()
 }
 
-/// Converts an act (a step of a world in which documents are given as strings) to a `Step`.
+/// Converts an `Act`, a step that is written with strings, to a `Step`.
 fn step(alloc: Global, act: Act) -> Option<Step> {
     match act {
         Act::EditSource(id, parent, text) => edit_source(alloc, id, parent, text),
@@ -117,7 +119,7 @@ fn edit_target(alloc: Global, id: &str, parent: &str, text: &str) -> Option<Step
     })
 }
 
-/// Converts an act that has no document (an act is a step of a world with documents as strings) to a `Step`.
+/// Converts an `Act` that has no document, document id or revision to a `Step`.
 fn plain_step(act: Act) -> Option<Step> {
     let Some(at) = at_0() else {
         return None;
@@ -144,7 +146,7 @@ fn plain_step(act: Act) -> Option<Step> {
     }
 }
 
-/// Converts each act of a list to a `Step`.
+/// Converts each `Act` of a list to a `Step`.
 fn steps(alloc: Global, acts: &[Act]) -> Option<Vec<Step>> {
     let mut all = Vec::new(alloc);
     for act in acts {
@@ -163,7 +165,7 @@ fn push_step(all: &mut Vec<Step>, step: Option<Step>) -> Option<()> {
     }
 }
 
-/// Converts each act of a list to a `Step`, and performs these steps in a world.
+/// Converts each `Act` of a list to a `Step`, and performs the steps in `world`.
 fn take(alloc: Global, world: &mut World<Rules>, acts: &[Act]) -> Option<()> {
     let Some(steps) = steps(alloc, acts) else {
         return None;
@@ -189,7 +191,7 @@ fn audit_text(alloc: Global, world: &World<Rules>) -> Option<String> {
     }
 }
 
-/// Returns the source or the target of a world, given the number of the side.
+/// Returns the source of `world` if `number` is 1, and otherwise the target.
 fn side(world: &World<Rules>, number: u128) -> &Peer<Rules> {
     if number == 1 {
         world.source()
@@ -210,7 +212,7 @@ fn life_text(alloc: Global, world: &World<Rules>) -> Option<String> {
     format!(in alloc; "{life}").ok()
 }
 
-/// Returns, as text, the value in a world that a `Question` asks for.
+/// Returns the value that a `Question` asks for, as a string.
 fn answer(alloc: Global, world: &World<Rules>, question: Question) -> Option<String> {
     match question {
         Question::Common => agreed(alloc, world.source(), world.target(), &REP),
@@ -223,7 +225,7 @@ fn answer(alloc: Global, world: &World<Rules>, question: Question) -> Option<Str
     }
 }
 
-/// Performs steps in a world, and asserts the results of questions about the world.
+/// Performs steps in `world`, and asserts that each question of `told` has the expected result after the steps.
 fn tell(rt: &impl Abort, alloc: Global, world: &mut World<Rules>, lists: &[Acts], told: Told) {
     for acts in lists {
         if take(alloc, world, acts).is_none() {
@@ -240,13 +242,14 @@ fn peer(alloc: Global, uuid: u128) -> Peer<Rules> {
     Peer::new(alloc, uuid, Rules { deny: None })
 }
 
-/// Creates a world of two empty peers.
+/// Creates a `World` of two empty peers, without messages in transit.
 fn world(rt: &impl Abort, alloc: Global) -> World<Rules> {
     let (source, target) = (peer(alloc, 1), peer(alloc, 2));
     World::new(alloc, source, target, None).expect(rt, "two peers")
 }
 
-/// Performs lists of steps in a world of two empty peers, and asserts the results of questions about the world.
+/// Performs lists of steps on two empty peers, and asserts that each question of `told` has the expected result after
+/// the steps.
 pub(crate) fn expect(rt: &impl Abort, alloc: Global, lists: &[Acts], told: Told) {
     let mut world = world(rt, alloc);
     tell(rt, alloc, &mut world, lists, told);
@@ -265,8 +268,8 @@ fn load_many(alloc: Global, world: &mut World<Rules>, count: u64) -> Option<()> 
     Some(())
 }
 
-/// Performs lists of steps in a world whose source has a given number of documents, and asserts the results of
-/// questions about the world.
+/// Performs lists of steps on an empty target and a source with `count` documents. Asserts that each question of `told`
+/// has the expected result after the steps.
 pub(crate) fn expect_of_many(
     rt: &impl Abort,
     alloc: Global,
@@ -279,7 +282,7 @@ pub(crate) fn expect_of_many(
     tell(rt, alloc, &mut world, lists, told);
 }
 
-/// Asserts that two peers with the same UUID cannot form a world.
+/// Asserts that `World::new` fails with `SamePeer` if the source and the target have the same UUID.
 pub(crate) fn refuse_one(rt: &impl Abort, alloc: Global) {
     let (source, target) = (peer(alloc, 1), peer(alloc, 1));
     let fault = World::new(alloc, source, target, None).err();

@@ -36,7 +36,7 @@ impl ScriptRead for NarrowReader<'_> {
     }
 }
 
-/// Each line of this script has 16 bytes including the line end, and each call of the reader returns at most 16 bytes.
+/// A script in which each line, with its line end, has 16 bytes, the most that a call of `NarrowReader` returns.
 const SIXTEEN: &str = "a line of these\na line of these\na line of these\n";
 
 /// Each row of the test table has a script, the number of successful reads, and the output before the read that fails.

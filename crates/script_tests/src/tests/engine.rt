@@ -7,7 +7,8 @@ use script_engine::{NoRest, OverRead, OverWrite, Serve, run_lines};
 use std::alloc::AllocError;
 use std::test::Fail;
 
-/// A server that prints, for each line of at most 40 bytes, the length of the previous successful line.
+/// A server that accepts lines of at most 40 bytes, and prints for each accepted line the length of the previously
+/// accepted line.
 #[derive(Drop)]
 pub(crate) struct Lengths {
     pub(crate) before: usize,

@@ -1,4 +1,4 @@
-//! Tests of output in two pieces, with a server that prints a line first and then the line end.
+//! Tests with a server that prints its output for each line of a script in two pieces.
 ghost use Rattle.std.specs.Prelude.{◌≡◌, ◌++◌, Ok, OnOk, codes};
 
 use script_engine::{OverRead, OverWrite, ScriptFault, Serve, run_lines};
@@ -9,8 +9,8 @@ use std::test::Fail;
 #[derive(Drop)]
 pub(crate) struct LineEnd;
 
-/// A server that prints `>` and the line as a first piece, and the line end as a second piece. An allocation for the
-/// second piece may fail.
+/// A server that prints each line of its input after a `>`, and then the line end as a second piece of output. Before
+/// the server prints a line end, it makes an allocation that may fail.
 #[derive(Drop)]
 pub(crate) struct Echo {
     alloc: Global,
@@ -53,7 +53,8 @@ fn push_marked(answer: &mut Vec<u8>, line: &[u8]) -> Result<(), AllocError>
     answer.extend_from_slice(line)
 }
 
-/// The expected output if no allocation fails, and the expected output if the allocation after the first piece fails.
+/// Each row of the test table has the capacity that the server reserves for a line end, whether the run succeeds, and
+/// the run's output. If the server cannot reserve the capacity, the output ends before the line end of the first line.
 static ROOMS: &[(usize, bool, &str)] = &[
     (1, true, ">one\n>two three\n"),
     (usize::MAX, false, ">one"),
