@@ -28,8 +28,8 @@ pub record InAttachments (s : List ℕ) : Type 0 where
   pub named : has_name member (codes "\"_attachments\"") ≡ true
 
 -- A run of string bytes (`IsRun`) may follow the beginning s of a document. The text S is the beginning of an envelope,
--- and has a complete member. If an envelope stores all members after a document's beginning s in the string `whole`,
--- the envelope begins with the text S.
+-- and has a complete member. If a document begins with s, and its envelope stores all later members in the string
+-- `whole`, the envelope begins with the text S.
 pub record IsPutStart (s S : List ℕ) : Type 0 where
   pub may : MayStream s
   pub inside : InAttachments s

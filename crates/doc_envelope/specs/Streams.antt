@@ -19,8 +19,8 @@ unfoldable pub mode_after : Mode → List ℕ → Mode
 mode_after m [] = m
 mode_after m (b ∷ t) = mode_after (mode_behind m b) t
 
--- After the text s, bytes of a string may be passed on without being stored. The text s ends inside a string, and the
--- last 8 bytes of s are not part of an escape.
+-- After the text s, bytes of a string may be passed on without being stored. The text s has at least 16 bytes, and ends
+-- inside a string. Each of the last 8 bytes of s is printable ASCII, and not a quotation mark or a backslash.
 pub record MayStream (s : List ℕ) : Type 0 where
   pub quoted : mode_after Outside s ≡ Quoted
   pub long : 16 ≤ length s

@@ -11,9 +11,10 @@ use crate::streaming::{ends_first, may_stream};
 use std::alloc::AllocError;
 
 impl Envelope {
-    /// Makes the beginning of an envelope from the beginning of a document. Returns true only if the document's next
-    /// bytes may be passed on without being stored. If `begin_put` returns true and all later members go into the
-    /// envelope's string `whole`, the envelope begins with the built text (`Envelope::text`).
+    /// Makes the beginning of an envelope from the beginning of a document. Returns true only if the beginning of the
+    /// document ends inside a string, and further bytes of the string may be passed on without being stored. If
+    /// `begin_put` returns true, and all later members of the document go into its envelope's string `whole`, the
+    /// envelope begins with the built text (`Envelope::text`).
     pub fn begin_put(&mut self, beginning: &[u8]) -> Result<bool, AllocError>
         ensures { IfOk result (λ ok. ok ≡ true → IsPutStart beginning.now (made_of self.new)) }
     {

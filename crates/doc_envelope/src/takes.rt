@@ -54,7 +54,7 @@ impl Envelope {
 
     /// Appends the content of the partial JSON string `string` to the built text. The text `string` is the beginning of
     /// the value of the envelope's member `whole`. Returns `false` if `string` with a closing quotation mark is not a
-    /// JSON string, or if this JSON string has only white space.
+    /// JSON string, or if this JSON string is empty or has only spaces.
     fn take_open(&mut self, string: &[u8]) -> Result<bool, AllocError>
         ensures { IfOk result (λ ok. ok ≡ true
             → AppendsOpen string.now (made_of self.old) (made_of self.new)) }

@@ -57,7 +57,8 @@ log_after Source (get_log Source) r before = log_in r
 log_after Target (get_log Target) r before = log_in r
 log_after side q r before = before
 
--- The log in the last response of the server `side` to a request for its log, or `None` if this response has no log.
+-- The log in the last response of the server `side` to a request for its log. The result is `None` if there is no such
+-- response, or if the last such response has no log.
 abbrev pub last_log : Side → List Exchange → Option LogView
 last_log side [] = None
 last_log side (e ∷ h) = log_after side e.request e.response (last_log side h)

@@ -119,8 +119,8 @@ module _ (a b b' a' : TreeValue) (there : IsGrownBy b a b') (back : IsGrownBy a 
 
 -- ---- the same
 
--- Trees s and t agree, and t has complete histories. If tree s has the parent of a revision in tree t, tree t has the
--- same parent for the revision.
+-- Trees s and t agree, and t has complete histories. If tree s stores a parent of a revision that is in tree t, tree t
+-- stores the same parent.
 module _ (s t : TreeValue) (ours : IsTree s) (theirs : IsTree t) (agree : Agree s t) (whole : IsWhole t) where
   same_parent : (c p : RevId) → has t c ≡ true → get s.parents c ≡ Some p → get t.parents c ≡ Some p
   same_parent c p there e = go (get t.parents c) refl

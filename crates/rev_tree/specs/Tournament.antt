@@ -40,7 +40,8 @@ leaf_key None = None
 leaf_key (Some n) = cond n.has_child None (Some (key_of n))
 
 -- The key of the leaf at index k of the comparison tree, or `None` if this index has no leaf. The parameters of `under`
--- are the nodes, the stored winners of comparisons, the number of compared nodes, and the index k.
+-- are the nodes, the stored winners of comparisons, the number of nodes entered into the comparison tree, and the index
+-- k.
 abbrev pub under : List NodeValue → List ℕ → ℕ → ℕ → Option Key
 under nodes winners entered k =
     cond (nat_lt k (length winners)) (entry nodes (get_or winners k 0))

@@ -55,9 +55,10 @@ impl Nodes {
         Ok(all)
     }
 
-    /// Returns a likely index of the parent of the node at index `child`. If the node's parent is known, the returned
-    /// index is the parent's index. If the node's parent is unknown, the returned index is that of the parent of the
-    /// previous node (index `child - 1`). Consecutive nodes are often leaves with the same parent.
+    /// Returns a likely index of the parent of the node at index `child`, or `None` if there is no guess. If the node's
+    /// parent is known, the returned index is the parent's index. If the node's parent is unknown, the returned index
+    /// is that of the parent of the previous node (index `child - 1`). Consecutive nodes are often leaves with the same
+    /// parent.
     fn near(&self, child: usize) -> Option<usize>
         requires { child < length self.now.items }
         ensures { IfSome result (λ i. i < length self.now.items) }

@@ -24,8 +24,8 @@ use std::marker::Model;
 /// generation below the previous node.
 pub(crate) const MOST_WALKED: usize = 8;
 
-/// The maximum number of nodes and given revisions for which a merge counts the missing revisions. A merge that counts
-/// the missing revisions reserves space only for these missing revisions.
+/// The maximum sum of a tree's nodes and the given revisions for which a merge counts the missing revisions. A merge
+/// that counts the missing revisions reserves space only for these missing revisions.
 const MOST_COUNTED: usize = 4;
 
 /// The maximum number of nodes of a tree. The index of a parent, counted from 1, has 32 bits.

@@ -85,9 +85,10 @@ impl Tournament {
         true
     }
 
-    /// Makes space for all nodes in the comparison tree. If the list of winners is shorter than the list of nodes, the
-    /// call starts an empty comparison tree with two winners per node. Returns true if the comparison tree has space
-    /// for all nodes, and false if an allocation fails.
+    /// Makes space for all nodes in the comparison tree. If the list of winners has fewer than two elements or is
+    /// shorter than the list of nodes, the call starts an empty comparison tree. The new list of winners has two
+    /// elements per node, and two more. Returns true if the comparison tree has space for all nodes, and false if an
+    /// allocation fails.
     fn make_matches(&mut self, nodes: &[Node]) -> bool
         requires few { length nodes.now < 2 ^ 32 }
         requires played { IsPlayed nodes.now self.old.winners.items self.old.entered 0 }
