@@ -9,11 +9,11 @@ use Rattle.commands.specs.Trust.{TrustedLines}
 
 -- The input, the output and the result of a program that runs a script with the given settings. The bytes `input` are
 -- what the program's reads returned, and the statement `ended` says that the reads reached the input's end. The bytes
--- `text` are what the program's writer accepted, and the last argument is the result of the script. If a script
--- succeeded, the script's input has ended, and the program's writer has accepted the script's complete output. If a
--- script failed, the program's writer has accepted a prefix of the script's output. If a read failed, the writer has
--- accepted the output of all lines that end in the bytes read. The output of the program has the guarantees of
--- `TrustedLines`.
+-- `text` are what the program's writer accepted. The last argument of `Prints` is the script's result, `Ok clean` or
+-- `Err fault`. If a script succeeded, the script's input has ended, and the program's writer has accepted the script's
+-- complete output. If a script failed, the program's writer has accepted a prefix of the script's output. If the script
+-- failed with the error `Read`, the writer has accepted the output of each line whose end was read. The output of the
+-- program has the guarantees of `TrustedLines`.
 abbrev pub Prints : Program → List ℕ → Type 0 → List ℕ → Result Bool ScriptFault → Type 0
 Prints program input ended text (Ok clean) =
     ended × (state : State) × IsAnswered TrustedLines (no_databases program) input clean text state

@@ -152,10 +152,10 @@ pub fn read_object<'a>(
 ///
 /// - `Read`: the reader failed in this call, or 4,294,967,295 reads of at most 65,536 bytes were made.
 /// - `Write`: the writer failed in this call.
-/// - `Memory`: an allocation failed before anything was read, or while a line was read. The output of all lines before
-///   the failed allocation is complete.
-/// - `Cut`: an allocation failed after the first piece of a line's output. The output of all earlier lines is complete,
-///   and a part of the failed line's output is missing.
+/// - `Memory`: an allocation failed before anything was read, or while a line was read. With the error `Memory`, the
+///   output of all earlier lines is complete.
+/// - `Cut`: an allocation failed after the first piece of a line's output. With the error `Cut`, the output of all
+///   earlier lines is complete, and a part of the failed line's output is missing.
 pub fn run_script<H, R: ScriptRead, W: ScriptWrite, L: ObserveAnswers>(
     rt: &H,
     reader: &mut R,
@@ -170,17 +170,17 @@ where
         (λ clean. (input : List ℕ) × (text : List ℕ) × (state : State) × Gives (R.left reader.old) input
         × Appends (W.held writer.old) (W.held writer.new) text
         × IsAnswered LinesAnswer (no_databases (program_of settings.now)) input clean text state) }
-    // All databases are consistent with each other before and after every line. An `audit` line therefore never reports
-    // a leaf that is not covered. If a `replicate` line prints that its session reached its goal, the target covers the
-    // source's selected feed.
+    // All databases are consistent with each other before and after every line. Because all databases are consistent,
+    // an `audit` line never reports a leaf that is not covered. If a `replicate` line prints that its session reached
+    // its goal, the target covers the source's selected feed.
     ensures trust { IfOk result
         (λ clean. (input : List ℕ) × (text : List ℕ) × (state : State) × Gives (R.left reader.old) input
         × Appends (W.held writer.old) (W.held writer.new) text
         × IsAnswered TrustedLines (no_databases (program_of settings.now)) input clean text state) }
     ensures end { OnOk result (IsAtEnd (R.left reader.new)) }
-    // The clauses `answers` and `trust` are about the complete input of the reader. The clause `took` makes the
-    // statements of the clauses `answers` and `trust` about those input bytes that the call has read. The clause
-    // `ended` says that the last read found the end of the input.
+    // The clauses `answers` and `trust` are about the complete input of the reader. The clause `took` states the
+    // guarantees of `answers` and `trust` for the input bytes that the call has read. The clause `ended` says that the
+    // last read found the end of the input.
     ensures took { IfOk result
         (λ clean. (input : List ℕ) × (text : List ℕ) × (state : State)
         × Appends (R.taken reader.old) (R.taken reader.new) input × Appends (W.held writer.old) (W.held writer.new) text

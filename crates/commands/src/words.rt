@@ -64,9 +64,9 @@ fn command_name_of(value: &LineValue<'_>) -> Option<CommandName>
     }
 }
 
-/// Runs the command of an object, and writes the command's output into the buffer. If the call writes only the first
-/// piece of the output, the call returns the rest of the output. The call may block if the command is `replicate` or
-/// `sync`.
+/// Runs the command that the member `do` of a line's JSON object names, and writes the command's output into the buffer
+/// `answer`. If the call writes only the first piece of the output, the call returns the rest of the output. The call
+/// may block if the command is `replicate` or `sync`.
 pub fn serve<H: Threads + Wait + Sync>(
     rt: &H,
     alloc: Global,

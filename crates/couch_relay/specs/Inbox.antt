@@ -11,8 +11,8 @@ use Rattle.couch_relay.specs.Frames.{HeadView, IsHead, IsLine, NoFrame}
 abbrev pub pending : Inbox → List ℕ
 pending inbox = drop inbox.at inbox.held.items
 
--- The invariant of an inbox. The index of the first unused byte is at most the number of stored bytes, and the read
--- buffer is not empty.
+-- The invariant of an `Inbox`, which buffers the input bytes that `couch_relay` has read but not yet used. The index of
+-- the first unused byte is at most the number of stored bytes, and the read buffer is not empty.
 pub record IsInbox (inbox : Inbox) : Type 0 where
   pub within : inbox.at ≤ length inbox.held.items
   pub some : 0 < length inbox.buffer.items
@@ -41,8 +41,9 @@ abbrev pub BeginsWithHead : List ℕ → HeadView → List ℕ → Type 0
 BeginsWithHead bytes head rest = (line : List ℕ) × IsLine bytes line rest × IsHead line head
 
 -- The result of reading the head of a response. The call appends the bytes that it reads to the inbox's pending bytes,
--- which are not yet used. If the call returns a head, the pending bytes began with this head, and the bytes after the
--- head's line remain pending. If the call returns no head, the pending bytes did not begin with a complete response.
+-- which are not yet used. A head is the first line of a response. If the call returns a head, the pending bytes began
+-- with this line, and the bytes after the line remain pending. If the call returns no head, the pending bytes did not
+-- begin with a complete response.
 abbrev pub ReadsHead : Option (List ℕ) → Option (List ℕ) → Type 0 → List ℕ → List ℕ → Option Head → Type 0
 ReadsHead old new ended before after head =
     (bytes : List ℕ) × Appends old new bytes

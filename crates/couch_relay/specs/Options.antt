@@ -27,12 +27,12 @@ number_option name =
 abbrev pub text_option : Text → Rule
 text_option name = record (new_rule name) { long = Some name; action = Some Set; value_names = 1 }
 
--- The given command line with the three positional arguments added.
+-- The command line `app` with the arguments SOURCE, TARGET and SESSION added.
 abbrev pub with_arguments : App → App
 with_arguments app =
     with_rule (with_rule (with_rule app (argument (codes "SOURCE"))) (argument (codes "TARGET"))) (argument (codes "SESSION"))
 
--- The given command line with the three numeric options added.
+-- The command line `app` with the numeric options `--batch`, `--carry` and `--every` added.
 abbrev pub with_numbers : App → App
 with_numbers app =
     with_rule (with_rule (with_rule app (number_option (codes "batch"))) (number_option (codes "carry")))
@@ -50,7 +50,8 @@ command_line = with_options (with_numbers (with_arguments (program_app (codes "c
 
 -- ---- option values
 
--- The number n is the value of an option's text, which is a decimal numeral. If the option has no text, n is `default`.
+-- The number n is the value of an option's text, which is a decimal numeral. If an option has no text, the option's
+-- value n is the number `default`.
 abbrev pub IsValue : Option Text → ℕ → ℕ → Type 0
 IsValue None default n = n ≡ default
 IsValue (Some text) default n = IsNumber 64 text n
@@ -75,9 +76,9 @@ pub record AreGiven (text number : Text → Option Text) (o : Options) : Type 0 
 abbrev pub Says : List Text → Options → Type 0
 Says words o = AreGiven (λ id. first_of id (matches_of command_line words)) (λ id. one_of id (matches_of command_line words)) o
 
--- The reason why no options can be made from the command line's arguments. If the reason is `Words`, `clap` reports an
--- error for the arguments. If the reason is `NoNumber`, no value of `Options` has the values that the arguments give.
--- If the reason is `Memory`, an allocation failed.
+-- The reason why no options can be made from the command line's arguments. The variant `Words` has an error of the kind
+-- that `clap` reports for the command line's arguments. The variant `NoNumber` says that no value of `Options` matches
+-- the command line's arguments. The variant `Memory` says that an allocation failed.
 abbrev pub Refuses : List Text → NoOptions → Type 0
 Refuses words (Words error) = HasKind (fault_of command_line words) error
 Refuses words NoNumber = (o : Options) → Says words o → ⊥

@@ -19,8 +19,8 @@ use Rattle.couch_relay.specs.Options.{Says, Refuses}
 
 -- ---- an exchange
 
--- The bytes `bytes` are the head and the body of a response to request q. The response has the meaning `response` and
--- the date `date`.
+-- The bytes `bytes` are the head and the body of a response to request q. The response's head and body represent the
+-- value `response`, and the head has the date `date`.
 pub record IsResponse (q : RequestView) (bytes : List ℕ) (response : ResponseView) (date : Text) : Type 0 where
   pub head : HeadView
   pub body : List ℕ
@@ -42,8 +42,9 @@ Receives q old new ended before after dated =
     (bytes : List ℕ) × Appends old new bytes
     × MatchOption dated (NoFrame ended (before ++ bytes)) (λ d. BeginsWithResponse q (before ++ bytes) after d)
 
--- The exchange e is the next exchange of a run after the earlier exchanges. The request of e was written after the
--- earlier requests, and the response of e was read after the earlier responses.
+-- In a run, the exchange e (a request and its response) follows the exchanges that the statement `earlier` describes.
+-- The run wrote the request of exchange e after all earlier requests, and read the response of e after all earlier
+-- responses.
 pub record IsNext (o : RequestOptions) (e : Exchange) (earlier : List ℕ → List ℕ → Type 0) (read written : List ℕ) : Type 0 where
   pub read_before : List ℕ
   pub written_before : List ℕ
@@ -54,14 +55,14 @@ pub record IsNext (o : RequestOptions) (e : Exchange) (earlier : List ℕ → Li
   pub read_is : read ≡ read_before ++ frame
   pub written_is : written ≡ written_before ++ request_text o e.request
 
--- In a list of exchanges, the bytes `read` are the responses, and the bytes `written` are the requests. The list begins
--- with the last exchange.
+-- In a list of exchanges, the bytes `read` are the responses, and the bytes `written` are the requests. A list of
+-- exchanges begins with the newest exchange.
 abbrev pub Exchanged : RequestOptions → List Exchange → List ℕ → List ℕ → Type 0
 Exchanged o [] read written = (read ≡ []) × (written ≡ [])
 Exchanged o (e ∷ h) read written = IsNext o e (Exchanged o h) read written
 
--- The run has read the bytes `read` and written the bytes `written` in a list of exchanges. The relay's rules allow
--- each request of the list, and the request `next` after the list.
+-- The run has read the bytes `read` and written the bytes `written` in a list of exchanges. The rule `MayAsk` allows
+-- each request in this list of exchanges, and allows the request `next` after these exchanges.
 pub record IsRun (o : RequestOptions) (read written : List ℕ) (next : RequestView) : Type 0 where
   pub history : List Exchange
   pub exchanged : Exchanged o history read written
@@ -81,14 +82,14 @@ status_after (tell notice) = None
 status_after (done None counts recorded) = Some (if counts.doc_write_failures == 0 then 0 else 1)
 status_after (done (Some fault) counts recorded) = Some 3
 
--- The run of the relay has ended with the exit status `status`. If the relay's last request was `done`, the exit status
--- is the one that `status_after` gives for this request. If the last request was not `done`, the exit status is 3, and
--- the input bytes `left` do not begin with a complete response to the last request.
+-- A run of `couch_relay` has ended with the exit status `status`. If the last request that `couch_relay` wrote was
+-- `done`, the exit status is the result of `status_after` for this request. If the last request was not `done`, the
+-- exit status is 3, and the input bytes `left` do not begin with a complete response to the last request.
 abbrev pub EndsWith : Type 0 → RequestView → List ℕ → ℕ → Type 0
 EndsWith ended next left status =
     (status_after next ≡ Some status) ⊎ ((status_after next ≡ None) × NoFrame ended left × (status ≡ 3))
 
--- A complete run of the relay: the input, the output, and the exit status.
+-- A complete run of `couch_relay`: the run's input, output and exit status.
 pub record Ran (o : RequestOptions) (ended : Type 0) (input text : List ℕ) (status : ℕ) : Type 0 where
   pub read : List ℕ
   pub left : List ℕ
@@ -99,8 +100,8 @@ pub record Ran (o : RequestOptions) (ended : Type 0) (input text : List ℕ) (st
   pub text_is : text ≡ written ++ request_text o next
   pub ends : EndsWith ended next left status
 
--- A run of the relay that a fault stopped. The output has the requests of the complete exchanges, and a prefix of one
--- more request.
+-- A run of `couch_relay` that a fault stopped. The output has the requests of the complete exchanges, and a prefix of
+-- one more request.
 pub record RanUntil (o : RequestOptions) (input text : List ℕ) : Type 0 where
   pub read : List ℕ
   pub left : List ℕ
@@ -144,17 +145,17 @@ pub record IsChoice (input : List ℕ) (choice : Text) (rest : List ℕ) : Type 
   pub text : IsUtf8 body
   pub choice_is : choice ≡ on_one_line body
 
--- The given bytes do not begin with a selection of documents: the bytes do not begin with a complete response, or the
--- body of the response is not UTF-8.
+-- The bytes `input` do not begin with a selection of documents. Either `input` does not begin with a complete response,
+-- or the body of this response is not UTF-8.
 abbrev pub NoChoice : Type 0 → List ℕ → Type 0
 NoChoice ended input =
     NoFrame ended input
     ⊎ ((frame body rest : List ℕ) × (head : HeadView) × (input ≡ frame ++ rest) × IsFrame frame head body × ¬ IsUtf8 body)
 
 -- The result of reading a selection of documents. The call appends the bytes that it reads to the inbox's pending
--- bytes, which are not yet used. If the call returns a selection, the pending bytes began with this selection, and the
--- bytes after the selection remain pending. If the call returns no selection, the pending bytes did not begin with a
--- selection.
+-- bytes, which are not yet used. If the call returns a selection of documents, the pending bytes began with a response
+-- that has this selection. The bytes after this response remain pending. If the call returns no selection of documents,
+-- the inbox's pending bytes did not begin with a response that has a selection.
 abbrev pub ReadsChoice : Option (List ℕ) → Option (List ℕ) → Type 0 → List ℕ → List ℕ → Option Text → Type 0
 ReadsChoice old new ended before after choice =
     (bytes : List ℕ) × Appends old new bytes

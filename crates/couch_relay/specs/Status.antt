@@ -16,8 +16,8 @@ abbrev pub exit_status : Result ℕ ScriptFault → ℕ
 exit_status (Ok status) = status
 exit_status (Err fault) = 3
 
--- The exit status of the program. The exit status is 3 if the arguments give no options, except for requests for help
--- or the version.
+-- The exit status of the program. If the arguments start no run, the exit status is 0 for a request for help or the
+-- version, and otherwise 3.
 abbrev pub ended_status : Ended → ℕ
 ended_status (end.NotRun (Words error)) = usage_status (kind_status (kind_of error))
 ended_status (end.NotRun NoNumber) = 3

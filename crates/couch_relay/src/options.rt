@@ -46,7 +46,7 @@ pub(crate) struct Options<'a> {
     pub(crate) filter: &'a str,
     pub(crate) query: &'a str,
     pub(crate) salt: &'a str,
-    /// Whether the input begins with a response that is the selection of documents.
+    /// Whether the program reads a selection of documents from the first response in its input.
     pub(crate) choice: bool,
 }
 

@@ -1,4 +1,4 @@
-//! Runs the relay on the program's arguments, standard input and standard output, and determines the exit status.
+//! Runs `couch_relay` with the program's arguments, standard input and standard output, and determines the exit status.
 ghost use Rattle.std.specs.Prelude.{◌≡◌, ℕ, List, Some, IfOk, if◌then◌else◌, ◌==◌, map, string_bytes};
 ghost use Rattle.couch_relay.specs.Runs.{RunsWords};
 ghost use Rattle.couch_relay.specs.Status.{ended_status, exit_status, usage_status};

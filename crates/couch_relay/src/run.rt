@@ -236,7 +236,8 @@ pub(crate) fn run<R: ScriptRead, W: ScriptWrite>(
     make_requests(alloc, &settings, &requests, &mut inbox, reader, writer)
 }
 
-/// Parses the arguments, and runs a relay with the given options. The first argument is the program's name.
+/// Parses the program's arguments, and runs `couch_relay` with the options that the arguments give. The first argument
+/// is the program's name.
 pub(crate) fn run_words<R: ScriptRead, W: ScriptWrite>(
     alloc: Global,
     words: &[String],

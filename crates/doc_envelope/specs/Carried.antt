@@ -16,7 +16,7 @@ pub record IsByte (nesting b : ℕ) : Type 0 where
   pub closes : (b == 125 || b == 93) ≡ false
 
 -- A text in which all strings are closed and all brackets are paired. At the start of the text, n brackets are open. If
--- n is 0, each comma of the text is in a string or in brackets.
+-- no bracket is open before the text (n is 0), each comma of the text is in a string or in brackets.
 pub data Paired : ℕ → List ℕ → Type 0 where
   nothing : {n : ℕ} → Paired n []
   byte : {n b : ℕ} {t : List ℕ} → IsByte n b → Paired n t → Paired n (b ∷ t)

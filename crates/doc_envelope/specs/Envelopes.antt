@@ -24,8 +24,8 @@ stays m =
 abbrev pub goes : List ℕ → Bool
 goes m = not (stays m)
 
--- A list with one item, the member `whole` of an envelope, or the empty list if the envelope wraps no members. The
--- value of the member `whole` is one string, which has the texts of the wrapped members with commas between them.
+-- The member `whole` of an envelope, as a list of one item. If the envelope wraps no members, the list is empty. The
+-- value of the member `whole` is a string: the texts of the members that the envelope wraps, separated by commas.
 abbrev pub whole_of : List (List ℕ) → List (List ℕ)
 whole_of [] = []
 whole_of (m ∷ ms) = (whole_name ++ 58 ∷ quoted (joined (m ∷ ms))) ∷ []
@@ -33,8 +33,8 @@ whole_of (m ∷ ms) = (whole_name ++ 58 ∷ quoted (joined (m ∷ ms))) ∷ []
 abbrev pub envelope_of : List ℕ → List ℕ
 envelope_of x = object_of (filter stays (members_of x) ++ whole_of (filter goes (members_of x)))
 
--- Whether an envelope may have a member with the given name and value. For the members `_deleted` and `whole` of an
--- envelope, the result depends on the name and the type of the value, and for other members on the name only.
+-- Whether an envelope may have a member with the given name and value. An envelope may have `_id`, `_rev` and
+-- `_revisions` with any value, `_deleted` with a Boolean, and `whole` with a string.
 abbrev pub may_stand : List ℕ → Json → Bool
 may_stand name j =
     cond (bytes_eq name (codes "_id") || bytes_eq name (codes "_rev") || bytes_eq name (codes "_revisions")) true

@@ -17,7 +17,8 @@ opens b = b == 123 || b == 91
 abbrev pub closes : ℕ → Bool
 closes b = b == 125 || b == 93
 
--- Whether a byte ends a member in which n brackets are open: a comma, or the bracket that closes the member's object.
+-- Whether the byte b, after n open brackets in a member, ends the member. A member ends at a comma or a closing bracket
+-- that is outside of the member's own strings and brackets.
 abbrev pub ends_member : Mode → ℕ → ℕ → Bool
 ends_member Outside n b = n == 0 && (b == 44 || closes b)
 ends_member Quoted n b = false
@@ -44,9 +45,9 @@ length_in m n (b ∷ t) = cond (ends_member m n b) 0 (length_in (mode_behind m b
 abbrev pub first_length : List ℕ → ℕ
 first_length t = length_in Outside 0 t
 
--- The texts of an object's members, from the object's remaining text up to the bracket that closes the object. The text
--- of the first member begins with u. The text u is the part of the first member that precedes the object's remaining
--- text.
+-- The texts of the members in an object, from the current member on. A scan of the object's remaining text, up to the
+-- bracket that closes the object, gives the end of this member and the later members. The text u is the part of the
+-- current member that was already scanned.
 unfoldable pub members_in : Mode → ℕ → List ℕ → List ℕ → List (List ℕ)
 members_in m n u [] = cond (length u == 0) [] (u ∷ [])
 members_in m n u (b ∷ t) =

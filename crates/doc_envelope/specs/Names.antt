@@ -1,4 +1,4 @@
--- This file defines the name (with the quotation marks) and the value of a member of a JSON object.
+-- Defines the name, with its quotation marks, and the value of any member of a JSON object.
 use Rattle.std.specs.Prelude.{ℕ, ◌==◌, nat_eq, length, drop, take, List, [], ◌∷◌, Bool, cond, codes}
 use Rattle.std.specs.List.{list_any, starts_with}
 use Rattle.doc_envelope.specs.Members.{Outside, first_length, members_in}
@@ -26,6 +26,7 @@ id_of x = cond (has_name (first_member x) (codes "\"_id\"")) (value_of (first_me
 abbrev pub has_id : List ℕ → Bool
 has_id x = list_any (λ m. has_name m (codes "\"_id\"")) (members_in Outside 0 [] (drop 1 x))
 
--- Whether a text is a replication log, which is not a document.
+-- Whether the text of a JSON object is a replication log: the text begins with a member `_id` whose value begins with
+-- `_local/`.
 abbrev pub is_log : List ℕ → Bool
 is_log x = starts_with nat_eq x (codes "{\"_id\":\"_local/")

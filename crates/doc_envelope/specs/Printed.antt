@@ -1,4 +1,4 @@
--- Defines the envelopes whose text equals the text that the kit's JSON library writes for the envelope's value.
+-- Defines which envelopes have exactly the text that the crate `json` prints for the envelope's parsed value.
 use Rattle.std.specs.Prelude.{◌≡◌, ℕ, ◌≤◌, ◌<◌, List, [], ◌∷◌, ◌++◌, codes, true, Some}
 use Rattle.std.specs.Str.{IsUtf8}
 use Rattle.json.specs.Json.{Json, max_depth}
@@ -7,7 +7,7 @@ use Rattle.json.specs.Print.{print, token_text, quoted, escape, IsNumber}
 use Rattle.json.specs.Tree.{json_tokens, depth, HasNumbers}
 use Rattle.doc_envelope.specs.Envelopes.{is_envelope_value, may_stand}
 
--- The text t is what the kit's JSON library writes for the value of an envelope.
+-- The text t is what the crate `json` prints for the value of an envelope.
 pub record IsPrinted (t : List ℕ) : Type 0 where
   pub utf8 : IsUtf8 t
   pub value : Json
@@ -16,7 +16,7 @@ pub record IsPrinted (t : List ℕ) : Type 0 where
   pub text : t ≡ print (json_tokens value)
   pub envelope : is_envelope_value (Some value) ≡ true
 
--- The text t is what the kit's JSON library writes for a value that is nested less deep than an envelope may be.
+-- The text t is what the crate `json` prints for a JSON value whose nesting depth is below `max_depth`.
 pub record IsPrintedValue (t : List ℕ) : Type 0 where
   pub utf8 : IsUtf8 t
   pub value : Json
@@ -24,7 +24,7 @@ pub record IsPrintedValue (t : List ℕ) : Type 0 where
   pub nests : depth value < max_depth
   pub text : t ≡ print (json_tokens value)
 
--- The text m is what the kit's JSON library writes for a member that an envelope may have.
+-- The text m is what the crate `json` prints for a member with a name and a value that an envelope may have.
 pub record IsPrintedMember (m : List ℕ) : Type 0 where
   pub utf8 : IsUtf8 m
   pub name : List ℕ
@@ -39,14 +39,13 @@ pub record IsDigits (t : List ℕ) : Type 0 where
   pub utf8 : IsUtf8 t
   pub number : IsNumber t
 
--- The text t begins with a string as the kit's JSON library writes it, and `rest` follows.
+-- The text t begins with a string, as the crate `json` prints strings, and continues with the text `rest`.
 pub record BeginsWithString (t rest : List ℕ) : Type 0 where
   pub string : List ℕ
   pub utf8 : IsUtf8 string
   pub text : t ≡ quoted string ++ rest
 
--- The text consists of strings as the kit's JSON library writes them, with commas between them, and then of the
--- brackets that close a list and an object.
+-- The text consists of strings as the crate `json` prints them, separated by commas, and ends with the bytes `]}`.
 pub data AreIds : List ℕ → Type 0 where
   last_id : {s : List ℕ} → IsUtf8 s → AreIds (quoted s ++ 93 ∷ 125 ∷ [])
   more_ids : {s t : List ℕ} → IsUtf8 s → AreIds t → AreIds (quoted s ++ 44 ∷ t)
@@ -60,19 +59,19 @@ pub record IsStarted (t : List ℕ) : Type 0 where
   pub strings : AreIds ids
   pub text : t ≡ digits ++ (codes ",\"ids\":[" ++ ids)
 
--- The text t is a string as the kit's JSON library writes it.
+-- The text t is a JSON string, including its quotation marks, as the crate `json` prints it.
 pub record IsQuoted (t : List ℕ) : Type 0 where
   pub utf8 : IsUtf8 t
   pub string : List ℕ
   pub text : t ≡ quoted string
 
--- The text t is the content of a string and the closing quotation mark, as the kit's JSON library writes them.
+-- The text t is what the crate `json` prints for a string, without the opening quotation mark.
 pub record EndsPrinted (t : List ℕ) : Type 0 where
   pub string : List ℕ
   pub text : t ≡ escape string ++ 34 ∷ []
 
--- The text t is a member that an envelope may have, in the form that the kit's JSON library writes, followed by a
--- closing brace.
+-- The text t is a member that an envelope may have, in the form that the crate `json` prints, followed by a closing
+-- brace.
 pub record EndsEnvelope (t : List ℕ) : Type 0 where
   pub member : List ℕ
   pub printed : IsPrintedMember member

@@ -6,11 +6,13 @@ use Rattle.doc_envelope.specs.Names.{has_name}
 use Rattle.doc_envelope.specs.Steps.{texts_with, helds_by}
 use Rattle.doc_envelope.specs.Streams.{Front, MayStream, Opens, mode_after}
 
--- For a document's beginning s, the text of the envelope without the closing brace and without the member `whole`.
+-- The opening brace of an envelope, and those members of the partial document s that the envelope does not put into the
+-- member `whole`.
 abbrev pub made_from : List ℕ → List ℕ
 made_from s = texts_with (123 ∷ []) (members_in Outside 0 [] (drop 1 s))
 
--- For a document's beginning s, the texts that the envelope stores in the string of its member `whole`.
+-- The members of the partial document s that the envelope puts into the string of its member `whole`, separated by
+-- commas.
 abbrev pub held_from : List ℕ → List ℕ
 held_from s = helds_by [] (members_in Outside 0 [] (drop 1 s))
 
@@ -26,8 +28,8 @@ pub record InAttachments (s : List ℕ) : Type 0 where
   pub named : has_name member (codes "\"_attachments\"") ≡ true
 
 -- A run of string bytes (`IsRun`) may follow the beginning s of a document. The text S is the beginning of an envelope,
--- and has a complete member. If a document begins with s, and its envelope stores each later member of the document in
--- the string `whole`, then the envelope begins with S.
+-- and has a complete member. If a document begins with s, and its envelope stores all later members in the string
+-- `whole`, the envelope begins with the text S.
 pub record IsPutStart (s S : List ℕ) : Type 0 where
   pub may : MayStream s
   pub inside : InAttachments s

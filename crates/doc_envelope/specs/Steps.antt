@@ -8,7 +8,7 @@ use Rattle.doc_envelope.specs.Envelopes.{whole_name, stays, unfolded_member}
 abbrev pub added : List ℕ → List ℕ → List ℕ
 added t m = cond (nat_lt 1 (length t)) (t ++ 44 ∷ m) (t ++ m)
 
--- The text of the string in an envelope's member `whole`, after member m is appended to the text h.
+-- The content h of an envelope's string `whole` after appending the member m, with a comma before m unless h is empty.
 abbrev pub held_with : List ℕ → List ℕ → List ℕ
 held_with h m = cond (length h == 0) (h ++ m) (h ++ 44 ∷ m)
 

@@ -13,29 +13,29 @@ is_streamable b = nat_le 32 b && nat_lt b 127 && not (b == 34) && not (b == 92)
 abbrev pub IsRun : List ℕ → Type 0
 IsRun r = list_all is_streamable r ≡ true
 
--- The mode at the end of a text, if m is the mode at the start of the text. A mode says whether a position is outside a
--- string, inside a string, or after a backslash in a string.
+-- The mode of a JSON scan after the last byte of a text, if the scan enters the text in mode m. A mode says whether a
+-- position is outside a string, inside a string, or after a backslash in a string.
 unfoldable pub mode_after : Mode → List ℕ → Mode
 mode_after m [] = m
 mode_after m (b ∷ t) = mode_after (mode_behind m b) t
 
--- A run (bytes in a string that are not stored) may be inserted after s. The text s ends inside a string, and the last
--- bytes of s are not part of an escape.
+-- After the text s, bytes of a string may be passed on without being stored. The text s has at least 16 bytes, and ends
+-- inside a string. Each of the last 8 bytes of s is printable ASCII, and not a quotation mark or a backslash.
 pub record MayStream (s : List ℕ) : Type 0 where
   pub quoted : mode_after Outside s ≡ Quoted
   pub long : 16 ≤ length s
   pub plain : IsRun (drop (length s - 8) s)
 
--- The text t is the beginning of an object without the object's opening brace. The last member in t is incomplete, and
--- the text u is the part of this member that is in t.
+-- The text t begins after the opening brace of an object, and ends within a member. The text u is the incomplete last
+-- member of the text t.
 pub data Opens : List ℕ → List ℕ → Type 0 where
   open_last : {u : List ℕ} → first_length u ≡ length u → Opens u u
   open_later : {u : List ℕ} (m t : List ℕ) → first_length (m ++ 44 ∷ t) ≡ length m → Opens t u → Opens (m ++ 44 ∷ t) u
 
--- The text f is the beginning of a document, and s is f without the runs that are not stored. The output for a document
--- that begins with the text f begins with the text F. The output for a document that begins with the text s begins with
--- the text S. `IsStart s S` states two facts. Bytes of a string that are not stored (a run) may follow s, and the
--- output for each document that begins with s begins with S.
+-- A program that has read the first bytes f of an input may write the bytes F as the first bytes of the output. The
+-- program stores only the bytes s of f, and S of F, because runs (bytes in strings) are passed on without being stored.
+-- The statement `IsStart s S` says that the output for each input that begins with the bytes s begins with the bytes S.
+-- The statement `IsStart s S` also says that a run may follow the bytes s.
 pub data Front (IsStart : List ℕ → List ℕ → Type 0) : List ℕ → List ℕ → List ℕ → List ℕ → Type 0 where
   start : {s S : List ℕ} → IsStart s S → Front IsStart s s S S
   run : {f s F S : List ℕ} → Front IsStart f s F S → IsStart s S → (r : List ℕ) → IsRun r

@@ -5,22 +5,22 @@ use Rattle.doc_envelope.specs.Envelopes.{string_of}
 use Rattle.doc_envelope.specs.Steps.{added, all_taken}
 use Rattle.doc_envelope.specs.Streams.{Front, MayStream}
 
--- The text t after the name, the colon and the opening quotation mark of a member `whole`.
+-- The name, the colon and the opening quotation mark of a member `whole`, followed by the text t.
 abbrev pub whole_before : List ℕ → List ℕ
 whole_before t = codes "\"whole\":\"" ++ t
 
--- The text q is the beginning of a JSON string, from the opening quotation mark, and has content that is not blank. The
--- text S is the object's text `made`, to which the content of q was added as further members.
+-- The text q is the beginning of a JSON string, from the opening quotation mark, and has content that is not blank.
+-- Appending the members in the partial JSON string q to the object's text `made` gives the text S.
 pub record AppendsOpen (q made S : List ℕ) : Type 0 where
   pub content : List ℕ
   pub says : string_of (q ++ 34 ∷ []) ≡ Some content
   pub filled : is_blank content ≡ false
   pub front : S ≡ added made content
 
--- A run (bytes in a string that are not stored) may follow the beginning s of an envelope. The text s ends inside the
--- string that is the value of the envelope's member `whole`. The text `made` is the part of the document that results
--- from the envelope's members before `whole`. If an envelope begins with the text s, the document that is unwrapped
--- from the envelope begins with the text S.
+-- After the beginning s of an envelope, bytes of a string may be passed on without being stored. The text s ends inside
+-- the string that is the value of the envelope's member `whole`. The text `made` is the part of the document that
+-- results from the envelope's members before `whole`. If an envelope begins with the text s, its document begins with
+-- the text S.
 pub record IsTakeStart (s S : List ℕ) : Type 0 where
   pub may : MayStream s
   pub made : List ℕ

@@ -1,5 +1,5 @@
--- Defines JSON texts as lists of bytes, as specified in docs/PROFILE.md, "CouchDB's answers". The grammar of the kit's
--- JSON library decides whether a text is JSON.
+-- Defines JSON texts as lists of bytes, as specified in docs/PROFILE.md, "CouchDB's answers". A text is JSON if the
+-- grammar of the crate `json` accepts it.
 use Rattle.std.specs.Prelude.{◌≡◌, ℕ, ◌+◌, ◌<◌, ◌&&◌, ◌||◌, ◌==◌, List, [], ◌∷◌, ◌++◌, Bool, true, false, is_some}
 use Rattle.std.specs.List.{list_all}
 use Rattle.std.specs.Str.{is_utf8}
@@ -31,8 +31,9 @@ pub record IsPlain (nesting b : ℕ) : Type 0 where
   pub opens : (b == 123 || b == 91) ≡ false
   pub closes : (b == 125 || b == 93) ≡ false
 
--- In the first text of `Closed`, strings are closed and brackets are paired, at most 128 deep. The second text of
--- `Closed` is the first text with a blank for each byte of white space outside of strings.
+-- `Closed n t u` says that all strings and brackets of the text t are closed. At most 128 brackets are open at any
+-- position in t, including n brackets that were opened before t. The text u is the text t with a blank for each byte of
+-- white space outside of strings.
 pub data Closed : ℕ → List ℕ → List ℕ → Type 0 where
   nothing : {n : ℕ} → Closed n [] []
   space : {n b : ℕ} {t u : List ℕ} → is_space b ≡ true → Closed n t u → Closed n (b ∷ t) (32 ∷ u)

@@ -24,12 +24,11 @@ const WHOLE: &[u8] = b"\"whole\"";
 #[derive(Drop)]
 pub struct Envelope {
     pub(crate) alloc: Global,
-    /// The text that was built last, by wrapping or unwrapping.
+    /// The text that `put`, `take`, `begin_put` or `begin_take` built last.
     text: Vec<u8>,
-    /// The text of the members that the envelope stores in its string.
+    /// The text of the members that go into the string of the envelope's member `whole`.
     held: Vec<u8>,
-    /// If `printed` is true, each member of the envelope other than `whole` has the text that the kit's JSON library
-    /// prints for this member.
+    /// If `printed` is true, the crate `json` would print each member of the envelope, except `whole`, unchanged.
     printed: bool,
     scratch: JsonScratch,
 }
@@ -48,7 +47,7 @@ impl Envelope {
         }
     }
 
-    /// Returns the text that was built last, by wrapping or unwrapping.
+    /// Returns the text that `put`, `take`, `begin_put` or `begin_take` built last.
     pub fn text(&self) -> &[u8]
         ensures { result.now ≡ made_of self.now }
     {
@@ -116,8 +115,8 @@ impl Envelope {
         self.scratch.is_json(self.alloc, self.text.as_slice())
     }
 
-    /// Whether a text is JSON in UTF-8. The call leaves the text that was built last unchanged, and reads with the
-    /// memory that wrapping and unwrapping use, too.
+    /// Whether a text is JSON in UTF-8. The call does not change the text that was built last. To parse, the call uses
+    /// the same `JsonScratch` as `put` and `take`.
     pub fn is_json_text(&mut self, text: &[u8]) -> Result<bool, AllocError>
         ensures value { IfOk result (λ json. json ≡ is_json text.now) }
         ensures same { made_of self.new ≡ made_of self.old }
@@ -155,7 +154,8 @@ impl Envelope {
         Ok(())
     }
 
-    /// Ends the text of an envelope with the member `whole`. Returns `false` if the wrapped members are not UTF-8.
+    /// Ends the text of an envelope with the member `whole`. Returns `false` if the text of the members in `whole` is
+    /// not UTF-8.
     fn end_fold(&mut self) -> Result<bool, AllocError>
         ensures is { IfOk result (λ ok. ok ≡ is_utf8 (held_of self.old)) }
         ensures made { IfOk result (λ ok. ok ≡ true
@@ -168,8 +168,8 @@ impl Envelope {
         Ok(true)
     }
 
-    /// Copies each member of an envelope. In place of a member `whole`, the call copies the wrapped members. Returns
-    /// `false` if the envelope has a member `whole` that is not a string of members.
+    /// Copies each member of an envelope. Instead of the member `whole`, `unfold` copies the members that the string of
+    /// `whole` contains. Returns `false` if the value of a member `whole` is not a string, or is a blank string.
     fn unfold(&mut self, document: &[u8]) -> Result<bool, AllocError>
         ensures { IfOk result (λ ok. all_taken (123 ∷ []) (members_in Outside 0 [] (drop 1 document.now))
             ≡ cond ok (Some (made_of self.new)) None) }
@@ -201,8 +201,8 @@ impl Envelope {
         self.hold(member)
     }
 
-    /// Appends a member to the envelope. After the call, `printed` is true only if `printed` was true before, and the
-    /// member has the text that the kit's JSON library prints for this member.
+    /// Appends a member to the envelope. The field `printed` stays true only if the crate `json` would print the member
+    /// unchanged.
     fn put_front(&mut self, member: &[u8]) -> Result<(), AllocError>
         ensures made { OnOk result (made_of self.new ≡ added (made_of self.old) member.now) }
         ensures held { held_of self.new ≡ held_of self.old }
@@ -224,7 +224,7 @@ impl Envelope {
         self.text.extend_from_slice(member)
     }
 
-    /// Appends a member to the members that the envelope stores in its string.
+    /// Appends a member of the document to the text for the envelope's string `whole`.
     fn hold(&mut self, member: &[u8]) -> Result<(), AllocError>
         ensures held { OnOk result (held_of self.new ≡ held_with (held_of self.old) member.now) }
         ensures made { made_of self.new ≡ made_of self.old }
@@ -236,8 +236,8 @@ impl Envelope {
         self.held.extend_from_slice(member)
     }
 
-    /// Appends the member `whole` to the envelope if there are wrapped members. Returns `false` if the wrapped members
-    /// are not UTF-8.
+    /// Appends the member `whole` to the envelope, if the text for the string of `whole` is not empty. Returns `false`
+    /// if the text of the members in `whole` is not UTF-8.
     fn end_held(&mut self) -> Result<bool, AllocError>
         ensures is { IfOk result (λ ok. ok ≡ is_utf8 (held_of self.old)) }
         ensures made { IfOk result (λ ok. ok ≡ true
@@ -250,9 +250,9 @@ impl Envelope {
         quote(self.alloc, self.held.as_slice(), &mut self.text)
     }
 
-    /// If members are wrapped, appends the member `whole` to the envelope, without the quotation mark that closes the
-    /// string of `whole`. If no members are wrapped, removes the last byte of the built text. Returns `false` if the
-    /// wrapped members are not UTF-8.
+    /// Appends the member `whole` to the envelope, without the quotation mark that closes the string of `whole`. If the
+    /// string would be empty, the call instead removes the last byte of the envelope's text. Returns `false` if the
+    /// text of the members in `whole` is not UTF-8.
     pub(crate) fn begin_held(&mut self) -> Result<bool, AllocError>
         ensures is { IfOk result (λ ok. ok ≡ is_utf8 (held_of self.old)) }
         ensures made { IfOk result (λ ok. ok ≡ true
@@ -265,8 +265,9 @@ impl Envelope {
         Ok(true)
     }
 
-    /// Appends a member of an envelope, or the wrapped members if the member's name is `whole`. Returns `false` if the
-    /// envelope has a member `whole` that is not a string of members.
+    /// Appends a member of an envelope to the document's text. If the member's name is `whole`, the call instead
+    /// appends the members in the string of `whole`. Returns `false` if the value of a member `whole` is not a string,
+    /// or is a blank string.
     pub(crate) fn take_member(&mut self, member: &[u8]) -> Result<bool, AllocError>
         ensures { IfOk result (λ ok. taken_with (made_of self.old) member.now
             ≡ cond ok (Some (made_of self.new)) None) }
@@ -281,7 +282,7 @@ impl Envelope {
         Ok(true)
     }
 
-    /// Appends the wrapped members, which are the content of a JSON string.
+    /// Appends the members in the JSON string `value`, the value of an envelope's member `whole`.
     pub(crate) fn take_held(&mut self, value: &[u8]) -> Result<bool, AllocError>
         ensures { IfOk result (λ ok. option_map (added (made_of self.old))
             (option_and_then if_any (string_of value.now)) ≡ cond ok (Some (made_of self.new)) None) }

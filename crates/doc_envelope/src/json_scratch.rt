@@ -1,14 +1,14 @@
-//! The memory that the kit's JSON reader needs.
+//! The memory that the crate `json` needs to parse a text.
 ghost use Rattle.std.specs.Prelude.{◌≡◌, IfOk};
 ghost use Rattle.doc_envelope.specs.Texts.{is_json};
 
 use json::Scratch;
 use std::alloc::{AllocError, Global};
 
-/// The memory that the kit's JSON reader needs, allocated when the first text is read.
+/// The memory that the crate `json` needs to parse a text, allocated when the first text is parsed.
 ///
-/// A `Scratch` has over 16 KB, so it is stored in a heap block. The value that owns a `JsonScratch` is therefore small,
-/// and is moved without copying 16 KB on the stack.
+/// A `Scratch` has over 16 KB, so a `JsonScratch` stores it in a heap block. Moving a `JsonScratch` copies only the
+/// address of the heap block, and not 16 KB.
 #[derive(Drop)]
 pub(crate) struct JsonScratch {
     block: Option<Box<Scratch>>,
@@ -20,7 +20,7 @@ impl JsonScratch {
         JsonScratch { block: None }
     }
 
-    /// Returns the memory. The first call allocates it.
+    /// Returns the memory. The first call of `get` allocates the memory.
     pub(crate) fn get(&mut self, alloc: Global) -> Result<&mut Scratch, AllocError> {
         let block = match self.block.take() {
             Some(block) => block,

@@ -1,4 +1,4 @@
-//! Recognizes envelopes whose texts are exactly as the kit's JSON library prints them.
+//! Recognizes envelopes that the crate `json` would print unchanged.
 ghost use Rattle.std.specs.Prelude.{◌≡◌, ◌+◌, ◌≤◌, ◌++◌, ◌∷◌, [], ◌==◌, ◌||◌, length, get_or, true, IfSome};
 ghost use Rattle.doc_envelope.specs.Texts.{is_json};
 ghost use Rattle.doc_envelope.specs.Printed.{IsPrintedMember, IsQuoted, EndsPrinted, EndsEnvelope};
@@ -30,7 +30,7 @@ pub fn is_printed_envelope(text: &[u8]) -> bool
 }
 
 /// Returns the first member of an envelope and the text after the member's comma. Returns `None` if no comma follows
-/// the member, or if the member may be `whole`.
+/// the member, or if the text begins with `"whole":`.
 fn split_front(text: &[u8]) -> Option<(&[u8], &[u8])>
     ensures { IfSome result (λ p. text.now ≡ p.0.now ++ 44 ∷ p.1.now) }
 {
@@ -59,7 +59,7 @@ fn before_brace(text: &[u8]) -> Option<&[u8]>
     text.strip_suffix(b"}")
 }
 
-/// Returns true only if a member is `whole` with a string that the kit's JSON library prints.
+/// Returns true only if a member is named `whole`, and its value is a string exactly as the crate `json` prints it.
 fn is_whole(member: &[u8]) -> bool
     ensures { result ≡ true → IsPrintedMember member.now }
 {
@@ -69,7 +69,7 @@ fn is_whole(member: &[u8]) -> bool
     }
 }
 
-/// Returns true only if a value is a string that the kit's JSON library prints.
+/// Returns true only if a value is a string exactly as the crate `json` prints it.
 fn is_quoted(value: &[u8]) -> bool
     ensures { result ≡ true → IsQuoted value.now }
 {
@@ -82,8 +82,8 @@ fn is_quoted(value: &[u8]) -> bool
     }
 }
 
-/// Returns true only if a text is a string's content followed by the closing quotation mark, as the kit's JSON library
-/// prints a string. The content may have quotation marks and backslashes, but no other characters that need an escape.
+/// Returns true only if a text is what the crate `json` prints for a string, without the opening quotation mark. The
+/// string may have quotation marks and backslashes, but no other characters that need an escape.
 fn ends_printed(text: &[u8]) -> bool
     ensures { result ≡ true → EndsPrinted text.now }
 {

@@ -1,4 +1,4 @@
-//! Recognizes members of an envelope whose texts are exactly as the kit's JSON library prints them.
+//! Recognizes members of an envelope that the crate `json` would print unchanged.
 ghost use Rattle.std.specs.Prelude.{◌≡◌, ◌≤◌, ◌++◌, [], ◌∷◌, length, true, IfSome};
 ghost use Rattle.std.specs.Str.{bytes_eq};
 ghost use Rattle.doc_envelope.specs.Printed.{IsPrintedMember, IsPrintedValue, IsDigits, BeginsWithString, AreIds, IsStarted};
@@ -6,16 +6,15 @@ ghost use Rattle.doc_envelope.specs.Printed.{IsPrintedMember, IsPrintedValue, Is
 use json::is_number;
 use json_values::plain_end;
 
-/// Returns true only if two conditions hold. The argument `printed` is true, and the text of the member is what the
-/// kit's JSON library prints for a member that an envelope may have.
+/// Returns true only if `printed` is true, an envelope may have the member, and the crate `json` would print the member
+/// unchanged.
 pub(crate) fn still_printed(printed: bool, member: &[u8]) -> bool
     ensures { result ≡ true → (printed ≡ true) × IsPrintedMember member.now }
 {
     printed && is_printed_member(member)
 }
 
-/// Returns true only if the text of the member is what the kit's JSON library prints for a member that an envelope may
-/// have.
+/// Returns true only if an envelope may have the member, and the crate `json` would print the member unchanged.
 #[inline(always)]
 pub(crate) fn is_printed_member(member: &[u8]) -> bool
     ensures { result ≡ true → IsPrintedMember member.now }
@@ -176,7 +175,7 @@ fn after_id(text: &[u8]) -> Option<&[u8]>
     }
 }
 
-/// Returns true only if a text is a string without escapes and two closing brackets.
+/// Returns true only if a text is a string without escapes, followed by the bytes `]}`.
 fn is_last_id(text: &[u8]) -> bool
     ensures { result ≡ true → BeginsWithString text.now (93 ∷ 125 ∷ []) }
 {

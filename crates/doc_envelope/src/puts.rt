@@ -1,4 +1,4 @@
-//! Wraps the beginning of a document.
+//! Makes the beginning of an envelope from the beginning of a document.
 ghost use Rattle.std.specs.Prelude.{◌≡◌, drop, true, IfOk, IfSome};
 ghost use Rattle.doc_envelope.specs.Streams.{Opens};
 ghost use Rattle.doc_envelope.specs.Stored.{made_of};
@@ -11,10 +11,10 @@ use crate::streaming::{ends_first, may_stream};
 use std::alloc::AllocError;
 
 impl Envelope {
-    /// Wraps the beginning of a document. Returns true only if a run (string bytes that are passed on without being
-    /// stored) may follow the beginning of the document. Suppose that the call returns true, and a document begins with
-    /// `beginning`. If the document's envelope stores all later members in its string `whole`, the envelope begins with
-    /// the built text.
+    /// Makes the beginning of an envelope from the beginning of a document. Returns true only if the beginning of the
+    /// document ends inside a string, and further bytes of the string may be passed on without being stored. If
+    /// `begin_put` returns true, and all later members of the document go into its envelope's string `whole`, the
+    /// envelope begins with the built text (`Envelope::text`).
     pub fn begin_put(&mut self, beginning: &[u8]) -> Result<bool, AllocError>
         ensures { IfOk result (λ ok. ok ≡ true → IsPutStart beginning.now (made_of self.new)) }
     {

@@ -8,7 +8,8 @@ use crate::envelope::behind_brace;
 use crate::members::first_length;
 use json_values::plain_end;
 
-/// Returns true only if a run (string bytes that are passed on without being stored) may follow a text.
+/// Returns true only if `text` ends inside a string, and further bytes of the string may be passed on without being
+/// stored.
 pub(crate) fn may_stream(text: &[u8]) -> bool
     ensures { result ≡ true → MayStream text.now }
 {
@@ -50,8 +51,9 @@ fn ends_quoted(text: &[u8]) -> bool
     quoted
 }
 
-/// Returns the position after a byte that is not a quotation mark. In a string, the call skips bytes that need no test,
-/// and the byte after a backslash. Returns `None` if no byte follows a backslash.
+/// Returns the position after a byte that is not a quotation mark. In a string, `past_byte` also skips the byte after a
+/// backslash, or all bytes before the next quotation mark, backslash or control byte. Returns `None` if no byte follows
+/// a backslash.
 #[inline(always)]
 fn past_byte(quoted: bool, text: &[u8], at: usize) -> Option<usize>
     requires within { at < length text.now }

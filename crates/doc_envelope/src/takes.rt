@@ -32,8 +32,9 @@ impl Envelope {
         Ok(ends_first(self.text()) && may_stream(self.text()))
     }
 
-    /// Copies each complete member of an envelope. Returns the text of the incomplete last member. Returns `None` if
-    /// the envelope has a complete member `whole` whose value is not a string, or is a blank string.
+    /// Copies each complete member from the beginning of an envelope. Returns the text of the member that the beginning
+    /// of the envelope has only in part. Returns `None` if the envelope has a complete member `whole` whose value is
+    /// not a string, or is a blank string.
     fn begin_unfold<'a>(&mut self, beginning: &'a [u8]) -> Result<Option<&'a [u8]>, AllocError>
         requires { 0 < length beginning.now }
         ensures { IfOk result (λ last. IfSome last (λ member. (t : List ℕ)
@@ -51,9 +52,9 @@ impl Envelope {
         Ok(Some(rest))
     }
 
-    /// Appends to the built text the content of `string`, the first bytes of the JSON string in which the envelope
-    /// stores members. Returns `false` if `string` with a closing quotation mark is not a JSON string, or if this JSON
-    /// string has only white space.
+    /// Appends the content of the partial JSON string `string` to the built text. The text `string` is the beginning of
+    /// the value of the envelope's member `whole`. Returns `false` if `string` with a closing quotation mark is not a
+    /// JSON string, or if this JSON string is empty or has only spaces.
     fn take_open(&mut self, string: &[u8]) -> Result<bool, AllocError>
         ensures { IfOk result (λ ok. ok ≡ true
             → AppendsOpen string.now (made_of self.old) (made_of self.new)) }

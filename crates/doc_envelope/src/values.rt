@@ -1,4 +1,4 @@
-//! Parses and prints the values of members with the kit's JSON reader.
+//! Parses and prints the values of members with the crate `json`.
 ghost use Rattle.std.specs.Prelude.{◌≡◌, ◌++◌, true, Some, IfOk, option_map};
 ghost use Rattle.std.specs.Str.{is_utf8};
 ghost use Rattle.json.specs.Print.{quoted};

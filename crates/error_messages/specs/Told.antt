@@ -10,8 +10,8 @@ AddsSeen old new = (more : List ℕ) × IsSeen more × (new ≡ old ++ encode_ut
 abbrev pub beginning : ℕ → List ℕ → List ℕ
 beginning number name = codes "line " ++ decimal number ++ codes ": " ++ name ++ codes ": "
 
--- The new text is the old text followed by one line: the beginning for `number` and `name`, a reason without hidden
--- characters, and a line end.
+-- The new text is the old text followed by the explanation of a failed line. The explanation is one line: the failed
+-- line's number, the error's name, a reason without hidden characters, and a line end.
 abbrev pub IsTold : ℕ → List ℕ → List ℕ → List ℕ → Type 0
 IsTold number name old new =
     (reason : List ℕ) × IsSeen reason × (new ≡ old ++ beginning number name ++ encode_utf8_all reason ++ codes "\n")

@@ -150,7 +150,8 @@ pub(crate) enum CommandFault<'v> {
     NoWord,
     /// The command is unknown.
     UnknownWord(&'v str),
-    /// The object has a member that the command does not have. The variant has the member's name.
+    /// The object has a member whose name the command does not allow. The field of `UnknownMember` is the member's
+    /// name.
     UnknownMember(&'v str),
     /// A required member is missing.
     Missing(&'static str),
@@ -199,7 +200,7 @@ fn fault_among<'v>(object: &'v LineValue<'_>, members: &'static [Member]) -> Com
     unknown_member(object, members)
 }
 
-/// Finds the object's first member that the command does not have.
+/// Finds the object's first member whose name the command does not allow.
 fn unknown_member<'v>(object: &'v LineValue<'_>, members: &'static [Member]) -> CommandFault<'v> {
     let Some(given) = object.as_object() else {
         return CommandFault::NoWord;

@@ -12,10 +12,10 @@ use std::alloc::{AllocError, Global};
 
 /// Appends an explanation: the line's number, the error name, the part at fault if this part is known, and the meaning
 /// of the error name (docs/PROFILE.md, "Names of refusals"). The part at fault is a command, a member, a document or a
-/// database. The explanation quotes strings of the line as JSON strings.
+/// database. Strings of the failed line are printed as JSON strings in the line's explanation.
 ///
-/// The contract guarantees that the explanation is one line without hidden characters. The contract does not say which
-/// text explains the reason of the error.
+/// The contract guarantees that the explanation is one line without hidden characters, for example control characters.
+/// The contract does not say which text explains the reason of the error.
 ///
 /// # Errors
 ///

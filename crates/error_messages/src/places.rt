@@ -7,8 +7,8 @@ use doc_json::has_fraction;
 use json_values::{LineValue, is_same_text};
 use std::alloc::AllocError;
 
-/// Appends the part of the line that is at fault (a document, a member or databases), and then a colon. If the part at
-/// fault is unknown, the call appends nothing.
+/// Appends the part of the line that is at fault (a document, a member or databases), and then a colon. If the
+/// document, member or databases that caused the error are unknown, the call appends nothing to `text`.
 #[tactic(auto, using(crate::proofs::Seen::seen_none))]
 pub(crate) fn push_place(
     text: &mut String,
@@ -64,7 +64,8 @@ fn push_database(text: &mut String, db: &str) -> Result<(), AllocError>
     push_words(text, ": ")
 }
 
-/// Appends the source of a replication, the target if the line names a target, and a colon.
+/// Appends `from`, the name of a replication's source, and a colon to the text. If the failed line names a target, `to`
+/// and the target's name precede the colon.
 fn push_databases(text: &mut String, object: &LineValue<'_>, source: &str) -> Result<(), AllocError>
     ensures { OnOk result (AddsSeen (string_bytes text.old) (string_bytes text.new)) }
 {
@@ -73,7 +74,7 @@ fn push_databases(text: &mut String, object: &LineValue<'_>, source: &str) -> Re
     push_words(text, ": ")
 }
 
-/// Appends the target of a replication, if the line names a target.
+/// Appends `to` and the name of a replication's target, if the failed line names a target.
 #[tactic(auto, using(crate::proofs::Seen::seen_none))]
 fn push_target(text: &mut String, object: &LineValue<'_>) -> Result<(), AllocError>
     ensures { OnOk result (AddsSeen (string_bytes text.old) (string_bytes text.new)) }
@@ -114,8 +115,8 @@ fn member_at_fault<'v>(name: &str, object: &'v LineValue<'_>) -> Option<&'v str>
     None
 }
 
-/// Whether a member of a line's `doc`, or of the `body` of a line without `doc` (if `is_body` is true), causes the
-/// error with the given name.
+/// Whether the member `member` of a document causes the error `name`. The document is the member `doc` of a line, or,
+/// if `is_body` is true, the member `body` of a line without `doc`.
 fn is_at_fault(name: &str, member: &str, value: &LineValue<'_>, is_body: bool) -> bool {
     if is_same_text("Fraction", name) {
         return has_fraction(value);

@@ -2,8 +2,8 @@
 
 use json_values::is_same_text;
 
-/// A table of the error names with which lines fail, and of the meaning of each name. The table omits the error names
-/// with which no line is expected to fail.
+/// A table of the errors of failed lines, with each error's name and meaning. The table omits errors that no line is
+/// expected to have.
 static SENTENCES: &[(&str, &str)] = &[
     (
         "Attachments",

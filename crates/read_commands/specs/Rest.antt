@@ -16,7 +16,7 @@ rest_left s (Compare r) = compare_left s r.value
 rest_left s (Conflicts r) = conflicts_left s r.value
 rest_left s (Docs r) = docs_left s r.value
 
--- The totals that a command has counted so far are the totals of those feed rows of state s that have been processed.
+-- The command's totals so far are correct: they count exactly the processed rows of the feed in the databases' state s.
 -- The command `docs` computes no totals.
 abbrev pub FitsRest : State → Rest → Type 0
 FitsRest s (Compare r) = FitsCompare s r.value

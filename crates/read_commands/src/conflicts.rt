@@ -73,8 +73,9 @@ pub struct ConflictsRest {
 }
 
 impl ConflictsRest {
-    /// Appends documents in conflict until the piece of output is full. After the last document, the call appends the
-    /// number of documents in conflict. Returns whether more of the command's output is left.
+    /// Appends documents in conflict to `piece`, until `piece` has at least 65,536 bytes or all documents are appended.
+    /// After the last document, the call appends the number of documents in conflict. Returns whether more of the
+    /// command's output is left.
     pub fn more(
         &mut self,
         alloc: Global,

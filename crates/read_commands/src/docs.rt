@@ -21,7 +21,7 @@ use std::alloc::{AllocError, Global};
 #[derive(Drop)]
 pub struct Docs<'v, 'a> {
     pub db: &'v str,
-    /// The sequence after which the command prints changed documents.
+    /// The lower limit of sequences: the command prints the documents that changed after the sequence `since`.
     pub since: u64,
     /// The ids of the selected documents, which are strings. If the line gives no ids, all documents are selected.
     pub doc_ids: Option<&'v [LineValue<'a>]>,

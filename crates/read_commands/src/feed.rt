@@ -15,7 +15,7 @@ const PIECE: usize = 65_536;
 /// A position in a changes feed.
 #[derive(Drop)]
 pub struct Walk {
-    /// The rows of the feed after this sequence are still to be printed.
+    /// The sequence up to which rows of the feed have been printed or skipped.
     pub since: u64,
     /// The selected documents. If there is no selection, the feed has all documents.
     pub chosen: Option<Chosen>,
@@ -52,8 +52,9 @@ pub trait RowPrinter {
 #[derive(Drop)]
 pub struct NoTally;
 
-/// Prints rows of the feed until the piece of output is full. Each read of the feed returns at most `limit` rows.
-/// Returns whether the piece of output is full. If the piece of output is not full, no rows of the feed are left.
+/// Appends the text of feed rows to `piece`, until `piece` has at least 65,536 bytes or all rows are printed. Each read
+/// of the feed returns at most `limit` rows. Returns true if `piece` has at least 65,536 bytes and rows of the feed may
+/// be left. Returns false if no rows of the feed are left.
 pub fn fill<P: RowPrinter>(
     alloc: Global,
     piece: &mut Vec<u8>,

@@ -22,7 +22,7 @@ pub trait StreamingCommand<L>: Sized + Drop {
     // The JSON value of a line.
     ghost seen: { L → Data };
 
-    // The type that contracts use for the command's parameters.
+    // The parameters of a streaming command, as contracts describe them.
     ghost Ask: { Type 0 };
 
     ghost asked: { Self → Ask };
@@ -46,8 +46,9 @@ pub trait StreamingCommand<L>: Sized + Drop {
         ensures fits { IfOk result (λ rest. FitsRest databases.now rest) };
 }
 
-/// Runs a command whose output is produced in pieces, and returns the first piece and the rest. If the call returns a
-/// rest, the first piece has at least 65,536 bytes.
+/// Runs a streaming command, and writes the first piece of the command's output to `answer`. If output remains, the
+/// call returns a value that represents the remaining output. If output remains after the first piece, the first piece
+/// has at least 65,536 bytes.
 #[inline(never)]
 pub fn begin_in<L, A: StreamingCommand<L>>(
     alloc: Global,

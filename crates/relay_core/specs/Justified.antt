@@ -1,5 +1,5 @@
--- Defines when the relay may request that a server's log record a sequence. A history of the relay is a list of
--- exchanges, the last exchange first.
+-- Defines when the relay may request that a server's log record a sequence. The history of a run is the list of the
+-- run's exchanges (a request and its response), newest exchange first.
 use Rattle.std.specs.Prelude.{ℕ, ◌≡◌, ◌+◌, ◌-◌, ◌^◌, ◌≤◌, ◌==◌, codes, Bool, true, false, ◌&&◌, ◌||◌, not, if◌then◌else◌, List, [], ◌∷◌, ◌++◌, Option, None, Some, min, bytes_eq}
 use Rattle.std.specs.List.{list_any}
 use Rattle.relay_core.specs.declared.messages.Side.{Side}
@@ -9,8 +9,9 @@ use Rattle.relay_core.specs.Leaves.{names, are_distinct, leaf_count, docs_where,
 
 -- ---- what settles a leaf
 
--- Whether the target's response to a `_revs_diff` request shows that the target has the given leaf. The documents of
--- the request must have distinct ids and name the leaf, and the response must not name the leaf as missing.
+-- Whether the target's response to a `_revs_diff` request shows that the target has the given leaf. A leaf is found if
+-- the `_revs_diff` request names the leaf and distinct document ids, and the response does not name the leaf as
+-- missing.
 abbrev pub finds : RequestView → ResponseView → Text → Text → Bool
 finds (revs_diff docs) (missing_response missing) id leaf = are_distinct docs && (names docs id leaf && not (names missing id leaf))
 finds q r id leaf = false
@@ -56,7 +57,8 @@ log_after Source (get_log Source) r before = log_in r
 log_after Target (get_log Target) r before = log_in r
 log_after side q r before = before
 
--- The log that the given server (the source or the target) returned most recently in a history.
+-- The log in the last response of the server `side` to a request for its log. The result is `None` if there is no such
+-- response, or if the last such response has no log.
 abbrev pub last_log : Side → List Exchange → Option LogView
 last_log side [] = None
 last_log side (e ∷ h) = log_after side e.request e.response (last_log side h)
@@ -79,8 +81,8 @@ seq_of (Some pair) = pair.1
 -- ---- progress of a run
 
 -- The relay has read consecutive pages of changes from the sequence `begin` to the sequence s. After each page, the
--- target had, or refused, each leaf of the page. In the pages from `begin` to s, there are n leaves that the target
--- refused and was not found to have.
+-- target had, or refused, each leaf of the page. The number n counts the leaves of these pages that the target refused,
+-- and that no later response showed at the target.
 pub data Reached : Text → List Exchange → Text → ℕ → Type 0 where
   begun : {begin : Text} {h : List Exchange} {s : Text} {n : ℕ} → begin ≡ s → n ≡ 0 → Reached begin h s n
   paged : {begin : Text} {h : List Exchange} {s : Text} {n : ℕ} (before after rest : List Exchange) (since : Text) (wait : Option ℕ) (page : PageView) (m : ℕ) → h ≡ rest ++ (after ++ exchange_of (get_changes since wait) (page_response page) ∷ before) → Reached begin before since m → AreSettled after page.rows → page.last_seq ≡ s → n ≡ m + leaf_count (not_found after page.rows) → Reached begin h s n
@@ -91,8 +93,9 @@ abbrev pub log_of : Side → LogView → LogView → LogView
 log_of Target target source = target
 log_of Source target source = source
 
--- First the relay processed the pages of changes from the sequence of the newest common entry of both logs to sequence
--- s. Then the relay read the logs of both servers.
+-- The run processed the pages of changes up to the sequence s. The first page begins at the sequence of the newest
+-- entry that the logs `target` and `source` share. After these pages, the run read the replication logs of the source
+-- and the target.
 pub record AreReady (h : List Exchange) (target source : LogView) (s : Text) (failures : ℕ) : Type 0 where
   pub before : List Exchange
   pub later : List Exchange
@@ -112,9 +115,8 @@ pub record IsReady (h : List Exchange) (side : Side) (log : LogView) (s : Text) 
   pub ready : AreReady h target source s failures
   pub own : log ≡ log_of side target source
 
--- In the given exchange, unless it is a notice, the target stored its log with the recorded sequence s. If the given
--- exchange is a notice (the request `tell`, which prints a message), the statement `before` about the earlier exchanges
--- is true.
+-- In the exchange of the request q and the response r, the target stored its log and recorded the sequence s. If the
+-- request q is `tell`, which prints a message, the statement `before` about the earlier exchanges is true instead.
 abbrev pub IsStoring : RequestView → ResponseView → Text → Type 0 → Type 0
 IsStoring (put_log Target log checkpoint) stored_response s before = checkpoint.seq ≡ s
 IsStoring (tell notice) r s before = before

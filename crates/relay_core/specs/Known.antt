@@ -40,16 +40,16 @@ asked_by run (stages.TargetPut target source checkpoint) = put_log Target (log_v
 asked_by run (stages.SourcePut source checkpoint) = put_log Source (log_view source) (checkpoint_view checkpoint)
 asked_by run (stages.Done fault) = done (option_map fault_view fault) run.counts (begin_of run)
 
--- The next request of the relay in a phase (the state of a run between two requests). If notices (messages to the user)
--- of the phase are not printed yet, the relay's next request is to print the first of these notices. If all notices of
--- the phase are printed, the phase's stage determines the relay's next request (`asked_by`).
+-- The next request of a run, given the phase (the run's state between two requests). If a notice (a message to the
+-- user) is not yet printed, the next request prints the first such notice. If all notices are printed, the phase's
+-- field `stage`, which names the response that the run waits for, determines the next request (`asked_by`).
 abbrev pub asked_of : Phase → RequestView
 asked_of phase = option_map_or (λ n. tell (notice_view n)) (slice_get phase.notices.items phase.told) (asked_by phase.run phase.stage)
 
 -- ---- what is known
 
--- The relay has processed the pages of changes from sequence `begin` to sequence `since`. The number `failures` is at
--- least the number of the pages' leaves that the target refused and lacks, or at least 2^64 - 1.
+-- The relay has processed the pages of changes from sequence `begin` to sequence `since`. The count `failures` includes
+-- each leaf of these pages that the target refused and lacks, or is at least 2^64 - 1.
 pub record IsReachedFrom (h : List Exchange) (begin since : Text) (failures : ℕ) : Type 0 where
   pub rejected : ℕ
   pub reached : Reached begin h since rejected
@@ -67,8 +67,8 @@ pub record IsRead (h : List Exchange) (begin since : Text) (failures : ℕ) (tar
   pub reached : IsReachedFrom before begin since failures
 
 -- The source returned a page of changes, and the transfer of the page is in progress. The documents `missing` have
--- exactly those leaves of the page that no response after the page has shown to be at the target. The target refused
--- each leaf that the error rows `rows` name.
+-- exactly those leaves of the page that no later response has shown at the target. The target refused each leaf that
+-- the error rows `rows` name.
 pub record IsOpen (h : List Exchange) (begin since last : Text) (failures : ℕ) (missing : List DocView) (rows : List RowErrorView) : Type 0 where
   pub before : List Exchange
   pub after : List Exchange

@@ -1,5 +1,5 @@
--- This file defines which leaves a set of leaves has, and which ids a set of ids has. A key of a set of ids is a
--- reference to an id. A key of a set of leaves is a pair: a reference to an id, and a reference to a leaf.
+-- Defines when a set of leaves contains a leaf, and when a set of document ids contains an id. A key of a set of ids is
+-- a reference to an id. A key of a set of leaves is a pair: a reference to an id, and a reference to a leaf.
 use Rattle.std.specs.Prelude.{Bool, ◌&&◌, List, bytes_eq}
 use Rattle.std.specs.Borrow.{Bor}
 use Rattle.std.specs.List.{list_any, list_all}

@@ -30,7 +30,7 @@ is_filled (r ∷ revs) = true
 abbrev pub have_leaves : List DocView → Bool
 have_leaves docs = list_all (λ d. is_filled d.1) docs
 
--- Whether the documents name each of the given leaves of document `id`.
+-- Whether the list `docs` contains each leaf of the list `revs` as a leaf of the document `id`.
 abbrev pub are_named : List DocView → Text → List Text → Bool
 are_named docs id revs = list_all (λ r. names docs id r) revs
 
@@ -48,7 +48,8 @@ abbrev pub doc_if_any : Text → List Text → List DocView
 doc_if_any id [] = []
 doc_if_any id (r ∷ revs) = (id, r ∷ revs) ∷ []
 
--- The given documents with only the leaves that pass a test. Documents without a leaf that passes the test are omitted.
+-- The documents of a list, each with only those of its leaves that pass the test p. If no leaf of a document passes the
+-- test p, the document is omitted.
 abbrev pub docs_where : (Text → Text → Bool) → List DocView → List DocView
 docs_where p [] = []
 docs_where p (d ∷ ds) = doc_if_any d.0 (filter (λ r. p d.0 r) d.1) ++ docs_where p ds

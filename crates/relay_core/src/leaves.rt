@@ -88,8 +88,8 @@ fn push_doc(
     Ok(())
 }
 
-/// Returns the given documents, each with only those of its leaves that are in a set of leaves. Documents without a
-/// leaf in the set are omitted.
+/// Returns the given documents, each with only those of its leaves that are in a set of leaves. If no leaf of a
+/// document is in the set `leaves`, the document is omitted.
 fn leaves_in(
     alloc: Global,
     docs: &[DocLeaves],
@@ -105,8 +105,8 @@ fn leaves_in(
     Ok(kept)
 }
 
-/// Returns the given documents with only the leaves that a response names as missing. Documents without a missing leaf
-/// are omitted.
+/// Returns the given documents with only the leaves that a response names as missing. If a response names no leaf of a
+/// document as missing, the document is not returned.
 pub fn missing_of(
     alloc: Global,
     docs: &[DocLeaves],

@@ -138,7 +138,7 @@ fn begin_window(
     })
 }
 
-/// Returns a list with the notice that the run restarts if `is_anew` is true, and otherwise an empty list.
+/// Returns the list of notices to print: the notice `Restarted` if `is_anew` is true, and otherwise an empty list.
 fn restart_notices(alloc: Global, is_anew: bool) -> Result<Vec<Notice>, AllocError> {
     let mut notices = Vec::new(alloc);
     if is_anew {
@@ -243,8 +243,8 @@ fn after_conflict(alloc: Global, mut run: Run) -> Phase
     quiet(alloc, run, Stage::TargetLog)
 }
 
-/// Continues a run after the target's response to a request to store its log. If the target stored its log, the next
-/// request is that the source store its log.
+/// Continues a run after the target responded to the request to store the target's log. If the target stored its log,
+/// the next request is that the source store its log.
 pub(crate) fn after_target_put(
     alloc: Global,
     run: Run,

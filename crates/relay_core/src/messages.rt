@@ -31,7 +31,7 @@ pub struct ChangesPage {
     pub last_seq: String,
     /// Whether the page is the last page of the feed.
     pub is_last: bool,
-    /// The number of changed documents after this page, if the server's response gives this number.
+    /// The number of changed documents after the page in the feed, if the server's response states this number.
     pub pending: Option<String>,
 }
 
@@ -65,8 +65,8 @@ pub struct ReplicationLog {
 pub enum Fault {
     /// A server gave no complete response.
     Unanswered(Side, Operation),
-    /// A response has a status that the run cannot use. The fault has a string with the error and the reason of the
-    /// server's response.
+    /// A response has a status that the run cannot use. The string of `Status` has the error and the reason that the
+    /// server's response gives.
     Status(Side, Operation, u16, String),
     /// A response body is not exactly one JSON value.
     NotJson(Operation),

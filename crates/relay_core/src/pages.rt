@@ -89,7 +89,7 @@ fn notices_of(
     Ok(notices)
 }
 
-/// Counts a page once the target has, or has refused, each leaf of the page. The call then continues the run.
+/// Counts a page of which the target has, or has refused, each leaf, and continues the run.
 fn accounted(
     alloc: Global,
     settings: &Settings,
@@ -133,9 +133,9 @@ fn ask_carry(alloc: Global, run: Run, mut transfer: Transfer) -> Phase
     quiet(alloc, run, Stage::Carry(transfer))
 }
 
-/// Continues a run after one part of a page's documents was transferred to the target. The call raises the maximum
-/// number of documents in a part (`run.carry`) to at least twice the number of documents in the transferred part, but
-/// not above `settings.carry`.
+/// Continues a run after one part of a page's documents was transferred to the target. The call raises `run.carry`, the
+/// maximum size of a part, to twice the size of the transferred part if this is greater. The call caps `run.carry` at
+/// `settings.carry`.
 fn advance(alloc: Global, settings: &Settings, mut run: Run, mut transfer: Transfer) -> Phase
     ensures { (h : List Exchange) → IsOpenAt h run transfer → Knows h result }
 {
@@ -177,7 +177,7 @@ pub(crate) fn after_changes(
     accounted(alloc, settings, run, end, 0, Vec::new(alloc))
 }
 
-/// Returns the data of a page that the run keeps, and drops the page's rows.
+/// Returns the data about a page that a run keeps after the page's rows are dropped.
 fn end_of(page: ChangesPage) -> PageEnd
     ensures { result.last_seq ≡ page.last_seq }
 {

@@ -73,15 +73,14 @@ pub struct Transfer {
     pub end: PageEnd,
     /// The leaves of the page that the target lacked before the transfer.
     pub missing: Vec<DocLeaves>,
-    /// The number of documents in the parts of the transfer that are done.
+    /// The number of documents in those parts of the transfer that have finished.
     pub carried: usize,
     /// The number of documents in the current part of the transfer.
     pub size: usize,
-    /// The error rows that refuse a leaf, from all parts of the transfer that are done. Each row in `refused` is a row
-    /// of a `_bulk_docs` response, or was created by the relay for a document that is too large for the target.
+    /// The error rows that refuse a leaf, from all finished parts of the transfer. Each row in `refused` is a row of a
+    /// `_bulk_docs` response, or was created by the relay for a document that is too large for the target.
     pub refused: Vec<RowError>,
-    /// The error rows that are not in `refused`, from the `_bulk_docs` responses to all parts of the transfer that are
-    /// done.
+    /// The error rows that are not in `refused`, from the `_bulk_docs` responses to all finished parts of the transfer.
     pub others: Vec<RowError>,
 }
 
@@ -94,14 +93,15 @@ pub enum Stage {
     SourceLog(ReplicationLog),
     /// The run waits for a page of changes.
     Changes,
-    /// The run waits for a response that names the leaves of a page that the target lacks.
+    /// The run waits for the target's response to `_revs_diff`, which names those leaves of a page that the target
+    /// lacks.
     Diff(ChangesPage),
     /// The run waits for the response to a transfer of documents.
     Carry(Transfer),
     /// After a transfer, the run waits for a response that names the leaves that the target still lacks.
     Again(Transfer),
-    /// The run waits for the target's response to a request to store its log. The source's log is stored after the
-    /// target's log.
+    /// The run waits for the target's response to the request to store the target's log. The source's log is stored
+    /// after the target's log.
     TargetPut(ReplicationLog, ReplicationLog, Checkpoint),
     /// The run waits for the source's response to a request to store its log.
     SourcePut(ReplicationLog, Checkpoint),
@@ -113,7 +113,7 @@ pub enum Stage {
 #[derive(Drop)]
 pub struct Phase {
     pub run: Run,
-    /// The notices that the caller prints before it sends the request of the stage.
+    /// The notices that the caller prints before it sends the request that `stage` determines.
     pub notices: Vec<Notice>,
     /// The number of notices that the caller has printed.
     pub told: usize,
@@ -207,7 +207,7 @@ fn wait_of(run: &Run) -> Option<u32>
     Some(if run.is_open { 5000 } else { 60000 })
 }
 
-/// Returns the documents in the current part of a transfer.
+/// Returns the part of a transfer's documents that the current request transfers.
 pub(crate) fn part_of(transfer: &Transfer) -> &[DocLeaves]
     ensures { docs_view result.now ≡ part_of transfer.now }
 {

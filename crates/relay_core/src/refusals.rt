@@ -80,7 +80,7 @@ fn are_about(rows: &[RowError], id: &str, leaf: &str) -> bool
     false
 }
 
-/// Whether each of the given leaves of a document has an error row in the list.
+/// Whether the error rows `rows` have a row for each leaf in `revs` of the document `id`.
 fn are_all_about(rows: &[RowError], id: &str, revs: &Vec<String>) -> bool
     ensures { result ≡ are_all_about (row_errors_view rows.now) id.now (texts_of revs.now.items) }
 {
@@ -92,7 +92,7 @@ fn are_all_about(rows: &[RowError], id: &str, revs: &Vec<String>) -> bool
     true
 }
 
-/// Whether each leaf of the given documents has an error row in the list.
+/// Whether the error rows `rows` have a row for each leaf of the documents `docs`.
 pub(crate) fn cover(rows: &[RowError], docs: &[DocLeaves]) -> bool
     ensures { result ≡ cover (row_errors_view rows.now) (docs_view docs.now) }
 {
@@ -208,8 +208,8 @@ fn error_of(
 }
 
 /// Returns the number of the given leaves that no error row in the list `refused` concerns, and the first of these
-/// leaves. The result also has the error and the reason of the first error row of the leaf's document in the list
-/// `others`, if such a row exists.
+/// leaves. If the list `others` has an error row about the document of this leaf, the result includes the first such
+/// row's error and reason.
 pub(crate) fn unaccounted(
     alloc: Global,
     refused: &[RowError],

@@ -54,11 +54,11 @@ fn is_telling(notices: &Vec<Notice>, told: usize) -> bool
     notices.get(told).is_some()
 }
 
-/// Continues a run after the response to the phase's request. The argument `date` is the response's date, or empty if
-/// the response has no date.
+/// Continues a run whose state is `phase`, after the response to the request that `Phase::request` returns. The
+/// argument `date` is the response's date, or empty if the response has no date.
 ///
-/// The contract says that the new phase is consistent with the exchange (the request and its response) and with all
-/// earlier exchanges.
+/// The contract says that if `phase` is consistent with the earlier exchanges, the returned phase is consistent with
+/// these exchanges and the new exchange.
 pub fn step(
     alloc: Global,
     settings: &Settings,

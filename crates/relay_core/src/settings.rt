@@ -3,7 +3,7 @@
 /// The settings of a replication run.
 #[derive(Drop)]
 pub struct Settings {
-    /// The id of this replication session. No other session has this id.
+    /// The id of the replication session, which differs from the ids of all other sessions.
     pub session_id: String,
     /// The largest number of documents in one part of a transfer.
     pub carry: u64,

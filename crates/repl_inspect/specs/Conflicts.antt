@@ -1,5 +1,5 @@
--- Defines when a document is in conflict, and which of its leaves are, as specified in docs/PROFILE.md, "Leaves and the
--- winner", and in CouchDB, "Replication and conflict model".
+-- Defines when a document is in conflict, and which of the document's leaves conflict. The definitions follow
+-- docs/PROFILE.md, "Leaves and the winner", and CouchDB, "Replication and conflict model".
 use Rattle.std.specs.Prelude.{Bool, not, nat_le, List, [], filter, length, if◌then◌else◌}
 use Rattle.rev_core.specs.Rev.{RevId}
 use Rattle.rev_tree.specs.Tree.{TreeValue, leaves, is_deleted}

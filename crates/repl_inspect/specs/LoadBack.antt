@@ -28,9 +28,9 @@ abbrev pub AllTaken : PeerValue → List Document → Type 0
 AllTaken p [] = Unit {0}
 AllTaken p (d ∷ ds) = IsOk (put_answer p.db d) × AllTaken (after_load p d) ds
 
--- An empty peer with enough free sequences accepts the leaves of all selected documents, loaded in order. After the
--- loads, each selected document has the same revisions, parents, contents of leaves and winner at the peer and in the
--- database.
+-- An empty peer with enough free sequences accepts the leaves of all selected documents, loaded in order. After an
+-- empty peer has loaded all selected documents, each selected document has the same revisions, parents, leaf contents
+-- and winner as in the database `db`.
 abbrev pub LoadBack : DatabaseValue → Type 0
 LoadBack db =
     (chosen : Choice) (p : PeerValue) → IsEmpty p → p.db.update_seq + length (all_documents chosen db) ≤ most

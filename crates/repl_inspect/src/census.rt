@@ -43,7 +43,8 @@ impl Census {
         }
     }
 
-    /// Adds a document's tree to the counts. If an allocation fails, the counts stay unchanged.
+    /// Adds a document, given as a tree of revisions, to the counts of this `Census`. If an allocation fails, the
+    /// counts stay unchanged.
     pub fn add(&mut self, alloc: Global, tree: &Tree) -> Result<(), AllocError>
         ensures ok { OnOk result ((earlier : List TreeValue) → self.old ≡ census_of earlier
             → self.new ≡ census_of (earlier ++ tree.now ∷ [])) }
@@ -74,7 +75,7 @@ pub fn census_of(alloc: Global, database: &Database) -> Result<Census, AllocErro
     Ok(census)
 }
 
-/// Adds the documents of the given feed rows to the counts.
+/// Adds the documents of feed rows to a `Census`, which counts documents, leaves and revisions.
 fn add_rows(
     alloc: Global,
     database: &Database,

@@ -62,10 +62,9 @@ impl Comparison {
     }
 
     /// Searches the missing leaves' ancestries for the first revision that has different parents at source and target.
-    /// Returns the first revision with different parents, and both parents, or `None` if the searched ancestries have
-    /// no revision with different parents. The missing leaves are searched in order, and each leaf's ancestry from its
-    /// newest revision to its oldest. The target would refuse the missing leaf whose ancestry has the returned
-    /// revision.
+    /// Returns the found revision with its two parents, or `None` if no revision in these ancestries has different
+    /// parents at source and target. The missing leaves are searched in order, and each leaf's ancestry from its newest
+    /// revision to its oldest. The target would refuse the missing leaf whose ancestry has the returned revision.
     pub fn contradiction(&self) -> Option<Contradiction>
         ensures { result ≡ self.now.contradiction }
     {

@@ -7,8 +7,8 @@ use rev_core::Rev;
 use rev_tree::Tree;
 use std::alloc::{AllocError, Global};
 
-/// Returns the live leaves of a document, winner first. If the document has fewer than two live leaves, the list is
-/// empty.
+/// Returns the live leaves of a document, winner first. If the document has fewer than two live leaves, the returned
+/// list is empty.
 pub fn conflicting(alloc: Global, tree: &Tree) -> Result<Vec<Rev>, AllocError>
     ensures { IfOk result (λ v. v.items ≡ conflicting tree.now) }
 {

@@ -1,4 +1,4 @@
-//! Adds counts of documents and revisions.
+//! Adds one count to another, and caps the sum at 9,007,199,254,740,991.
 ghost use Rattle.std.specs.Prelude.{◌≡◌, ◌+◌, if◌then◌else◌};
 ghost use Rattle.repl_inspect.specs.Counting.{counted};
 

@@ -1,5 +1,5 @@
-//! Compares the feed of a source with a target. The contract of the comparison relates missing leaves to covered
-//! leaves.
+//! Compares the feed of a source with a target. The contract says when the target covers the feed, and why a leaf of a
+//! covered feed can be missing in the target's trees.
 ghost use Rattle.std.specs.Prelude.{◌≡◌, IfOk};
 ghost use Rattle.std.specs.Option.{option_copied};
 ghost use Rattle.couch_base.specs.Feed.{chosen_feed};

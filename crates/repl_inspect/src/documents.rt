@@ -18,8 +18,8 @@ use std::alloc::{AllocError, Global};
 /// The list is empty if the database does not have the document.
 ///
 /// An empty peer with enough free sequences accepts every leaf of a selected feed, if the leaves of all documents in
-/// the feed are loaded in order. After the last load, each selected document is the same in the peer and in the
-/// original database.
+/// the feed are loaded in order. After all leaves of the selected feed are loaded into an empty peer, each selected
+/// document is the same at the peer and in `database`.
 pub fn documents_of(alloc: Global, database: &Database, id: &DocId) -> Result<Vec<Doc>, AllocError>
     ensures documents { IfOk result (λ v. v.items ≡ documents_at database.now id.now) }
     ensures documents_load_back { LoadBack database.now }

@@ -7,7 +7,7 @@ use rev_core::Rev;
 /// Why a document was refused, and the revision that was the cause.
 #[derive(Clone, Copy, Debug)]
 pub enum LedgerRow {
-    /// The write filter refuses the document. The variant names the document's newest revision.
+    /// The write filter refuses the document. The field `rev` of `Denied` is the newest revision of the document.
     Denied { rev: Rev },
     /// The ancestry of the document contradicts the tree, because a revision has different parents in the ancestry and
     /// in the tree. The variant names the newest revision whose parent in the ancestry differs from its parent in the

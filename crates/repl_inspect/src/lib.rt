@@ -1,8 +1,8 @@
 //! Read-only queries about databases and replications. The queries compare a source with a target, list documents in
 //! conflict, count a database's content, explain refused documents, and return the leaves of a document.
 //!
-//! No call of this crate changes a database or reads a log. The rules are in docs/PROFILE.md, "Missing revisions",
-//! "Merging", "Leaves and the winner", "Fetching" and "Covered leaves".
+//! No call of this crate changes a database or reads a log. The results of the calls are specified in docs/PROFILE.md,
+//! "Missing revisions", "Merging", "Leaves and the winner", "Fetching" and "Covered leaves".
 #![tactic(auto)]
 
 mod census;

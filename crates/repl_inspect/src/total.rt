@@ -22,7 +22,7 @@ pub struct Total {
 }
 
 impl Total {
-    /// Returns the total of an empty set of comparisons.
+    /// Returns a `Total` in which all counts are 0.
     pub fn none() -> Total
         ensures { result ≡ total_of [] }
     {

@@ -1,4 +1,4 @@
-//! Trees of documents that may not exist.
+//! Looks up the tree of a document, with an empty tree if the document does not exist.
 ghost use Rattle.std.specs.Prelude.{◌≡◌};
 ghost use Rattle.couch_base.specs.Database.{tree_of};
 ghost use Rattle.rev_tree.specs.Tree.{no_revisions};

@@ -1,5 +1,5 @@
 -- Proves that two trees are the same if they agree, have complete histories and have each other's leaves. Further
--- theorems say how two trees come to have each other's leaves by growing in both directions.
+-- theorems say when two trees have each other's leaves after each tree has received revisions from the other tree.
 use Rattle.std.proofs.Common.{◌≡◌, ◌⊎◌, ℕ, zero, suc, true, false, not, ◌&&◌, ◌||◌, List, [], ◌∷◌, filter, Option, Some, None, is_some, refl, sym, ap, ◌∙◌, inl, inr, arith}
 use Rattle.std.specs.List.{list_any}
 use Rattle.std.specs.Option.{option_map_or}
@@ -82,7 +82,7 @@ leaf_kept old other t grown l top there =
     ]
 
 -- Adding data of tree `other` to tree `old` gives tree t (`IsGrownBy`). If tree `other` has all leaves of tree `old`,
--- then `other` also has all leaves of tree t.
+-- `other` has all leaves of the tree t, which is `old` with data of `other`.
 pub leaves_known : (old other t : TreeValue) → IsGrownBy old other t → ((l : RevId) → is_leaf old l ≡ true → has other l ≡ true) → (l : RevId) → is_leaf t l ≡ true → has other l ≡ true
 leaves_known old other t grown all l top =
     elim (grown.revs l (and_parts _ _ top).0) [
@@ -119,8 +119,8 @@ module _ (a b b' a' : TreeValue) (there : IsGrownBy b a b') (back : IsGrownBy a 
 
 -- ---- the same
 
--- Trees s and t agree, and t has complete histories. If a revision of t has a known parent in s, the revision has the
--- same parent in t.
+-- Trees s and t agree, and t has complete histories. If tree s stores a parent of a revision that is in tree t, tree t
+-- stores the same parent.
 module _ (s t : TreeValue) (ours : IsTree s) (theirs : IsTree t) (agree : Agree s t) (whole : IsWhole t) where
   same_parent : (c p : RevId) → has t c ≡ true → get s.parents c ≡ Some p → get t.parents c ≡ Some p
   same_parent c p there e = go (get t.parents c) refl
@@ -183,8 +183,8 @@ same_by_leaves s t ours theirs agree whole_s whole_t there back = record {
 
 -- ---- leaves of equal trees
 
--- Inserting k into a sorted list gives the same position in two orders if both orders compare k with each element in
--- the same way.
+-- Two orders insert an element k at the same position of a list if they compare k with each list element in the same
+-- way.
 same_placed : {K : Type 0} (R S : K → K → Ordering) → IsTotalOrder R → (k : K) (ys : List K) → ((y : K) → list_any (eq_by_cmp R y) ys ≡ true → R k y ≡ S k y) → placed R k ys ≡ placed S k ys
 same_placed R S total k [] h = refl
 same_placed R S total k (y ∷ ys) h =
@@ -198,8 +198,8 @@ same_order R S r s (k ∷ xs) h =
     ∙ same_placed R S r k (in_order R xs) (λ y m. h k y (ap (λ b. b || list_any (eq_by_cmp R k) xs) ((eq_by_cmp_equiv r).refl k)) (or_right _ _ (sym (any-in_order r xs y) ∙ m)))
     ∙ ap (placed S k) (same_order R S r s xs (λ a b m n. h a b (or_right _ _ m) (or_right _ _ n))) ∙ sym (in_order-cons s k xs)
 
--- Revision r is in the unsorted list of the leaves of tree t exactly if r is a leaf of t. To find r in the list, the
--- leaf order of any tree u may be used.
+-- Revision r is in the unsorted list of the leaves of tree t exactly if r is a leaf of t. A search for a revision in
+-- the list of leaves may compare by any tree's leaf order, because only identical revisions compare as equal.
 any_leaf : (u t : TreeValue) (r : RevId) → list_any (eq_by_cmp (leaf_cmp u) r) (filter (is_leaf t) (keys t.origins)) ≡ is_leaf t r
 any_leaf u t r =
     let all = filter (is_leaf t) (keys t.origins) in

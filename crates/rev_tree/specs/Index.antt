@@ -16,8 +16,9 @@ abbrev pub noted : List (ℕ × ℕ) → ℕ → ℕ → List (ℕ × ℕ)
 noted entries mark place =
     if is_some (lookup (nat_eq mark) entries) then entries else entries ++ (mark, place) ∷ []
 
--- The entries of a tree's index after adding the hashes of the listed revisions, whose nodes have the positions from i
--- on, in the order of the list. A hash that already has a position in the index keeps this position.
+-- The entries of a tree's index after adding a hash for each revision of a list. The node of the first revision has the
+-- position i, and each further node has the next position. A hash that already has a position in the index keeps this
+-- position.
 abbrev pub noted_from : List (ℕ × ℕ) → ℕ → List RevId → List (ℕ × ℕ)
 noted_from entries i [] = entries
 noted_from entries i (r ∷ revs) = noted_from (noted entries (mark_of r) i) (i + 1) revs
@@ -30,8 +31,7 @@ falls (r ∷ []) = true
 falls (r ∷ (s ∷ revs)) = nat_eq r.generation (s.generation + 1) && falls (s ∷ revs)
 
 -- The index of a tree whose nodes have the revisions `revs`: a map from the revisions' hashes to the nodes' positions.
--- The index of a tree's nodes is empty if the nodes are few enough to be scanned. The index of a tree's nodes is also
--- empty if each revision is one generation below the previous revision, because a revision's generation then determines
--- the node's position.
+-- The index of a tree's nodes is empty if the nodes are few enough to be scanned. If each revision's generation is one
+-- lower than that of the previous revision, the index is empty, because the generation determines the node's position.
 abbrev pub index_for : List RevId → List (ℕ × ℕ)
 index_for revs = if nat_lt MOST_WALKED (length revs) && not (falls revs) then noted_from [] 0 revs else []

@@ -41,9 +41,9 @@ abbrev pub parent_of : ℕ → Option ℕ
 parent_of zero = None
 parent_of (suc place) = Some place
 
--- The origin of a revision, decoded from its stored form: a flag, the two 64-bit halves of a session's number, and a
--- further number. If the flag is true, the origin is the session's feed, and the further number is a sequence. If the
--- flag is false, the further number is the number of a local write.
+-- The origin of a revision, decoded from a Boolean, the halves `high` and `low` of a session's number, and the integer
+-- `number`. If the Boolean is true, the origin is the feed of this session, and `number` is the sequence in the feed.
+-- If the Boolean is false, the origin is a local write, and `number` is the number of the local write.
 abbrev pub origin_of : Bool → ℕ → ℕ → ℕ → Origin
 origin_of false high low number = Local number
 origin_of true high low number = Feed (record { 0 = high * 2 ^ 64 + low }) number

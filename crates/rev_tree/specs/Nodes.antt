@@ -24,7 +24,7 @@ abbrev pub Distinct : List RevId → Type 0
 Distinct [] = Unit {0}
 Distinct (r ∷ revs) = (is_among r revs ≡ false) × Distinct revs
 
--- Pairs of a revision of a list and its position. The first revision has the position i.
+-- Each revision of a list, paired with its position. Positions are counted from the integer i.
 abbrev pub places_from : ℕ → List RevId → List (RevId × ℕ)
 places_from i [] = []
 places_from i (r ∷ revs) = (r, i) ∷ places_from (i + 1) revs
@@ -51,8 +51,8 @@ abbrev pub entry_of : {X : Type 0} → RevId → Option X → List (RevId × X)
 entry_of r None = []
 entry_of r (Some x) = (r, x) ∷ []
 
--- The map entries of the nodes for which the function f gives a value. The key of a node's map entry is the node's
--- revision.
+-- A list with one map entry for each node for which the function f returns a value. The key of a node's map entry is
+-- the node's revision.
 abbrev pub entries_of : {X : Type 0} → (NodeValue → Option X) → List NodeValue → List (RevId × X)
 entries_of f [] = []
 entries_of f (n ∷ nodes) = entry_of n.rev (f n) ++ entries_of f nodes
@@ -117,9 +117,9 @@ pub record HasRoom (v : NodesValue) (more : ℕ) : Type 0 where
   pub nodes : length v.items + more ≤ v.capacity
   pub places : HasIndexRoom (length v.items + more) v.index_capacity
 
--- The effect of adding revision r to the list of nodes `old`, which gives the list `new`. In `new`, the node of r is at
--- position k, and the nodes of `old` have kept their positions. Adding r uses the space for one node if r is new, and
--- otherwise no space.
+-- The effect of adding revision r to the list of nodes `old`, which gives the list `new`. The node of the revision r is
+-- at position k of the list `new`, and the nodes of `old` keep their positions. If the revision r is new, adding its
+-- node uses the reserved space for one node, and otherwise no space.
 pub record HasGained (old new : NodesValue) (r : RevId) (origin : Origin) (k : ℕ) : Type 0 where
   pub tree : tree_of new.items ≡ with_rev (tree_of old.items) r origin
   pub at : slice_get (revs_in new.items) k ≡ Some r

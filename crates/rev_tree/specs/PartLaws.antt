@@ -1,5 +1,5 @@
--- Theorems about a tree that is a part of another tree. Adding a leaf and its ancestors to a part gives a part again,
--- and a part that has all leaves is the complete tree.
+-- Theorems about a tree that is a part of another tree. Adding a leaf with its ancestors to a part of a tree gives a
+-- part of this tree. A part that has all leaves of the tree equals the complete tree.
 use Rattle.std.proofs.Common.{◌≡◌, ℕ, zero, suc, ◌≤◌, true, false, not, cond, ◌||◌, List, [], ◌∷◌, Option, Some, None, is_some, refl, sym, ap, ◌∙◌, inl, inr, arith}
 use Rattle.std.specs.Option.{option_map_or, option_or}
 use Rattle.std.specs.Ordering.{eq_by_cmp}
@@ -47,7 +47,8 @@ pub walk_begins : (m : FinMap rev_cmp RevId) (n : ℕ) (p : RevId) → (rest : L
 walk_begins m zero p = ([], refl)
 walk_begins m (suc n) p = (option_map_or (walk m n) (get m p) [], refl)
 
--- In the edges between the revisions that a traversal visits, each visited revision has the same parent as in the tree.
+-- For each revision that a traversal of tree s visits, the edges between the visited revisions give the same parent as
+-- tree s.
 pub edges_walked : (s : TreeValue) → IsTree s → (n : ℕ) (x c : RevId) → has s x ≡ true → x.generation ≤ n → is_among c (walk s.parents n x) ≡ true → find rev_cmp c (edges_of (walk s.parents n x)) ≡ get s.parents c
 edges_walked s tree zero x c known low h = let low' = (tree.revs x known).low in absurd (omega arith)
 edges_walked s tree (suc n) x c known low h = go (λ p there under among. edges_walked s tree n p c there under among) (get s.parents x) refl
@@ -78,8 +79,8 @@ edges_apart s tree x c known apart =
 
 -- ---- parts
 
--- Tree t is a part of tree s: t has some of the revisions of s, and for each revision also its ancestors. If a leaf of
--- s is in t, it has the same content in t as in s.
+-- Tree t is a part of tree s: t has some of the revisions of s, and for each revision also its ancestors. A leaf of
+-- tree s that is in tree t has the same content in both trees.
 pub record IsPart (s t : TreeValue) : Type 0 where
   pub within : (r : RevId) → has t r ≡ true → has s r ≡ true
   pub parents : (r : RevId) → has t r ≡ true → get t.parents r ≡ get s.parents r
@@ -144,8 +145,8 @@ module _ (s t : TreeValue) (tree : IsTree s) (part : IsPart s t) (leaf : RevId) 
   absent_parent : (q : RevId) → has t q ≡ false → get t.parents q ≡ None
   absent_parent q h = none_is (get t.parents q) (λ p e. false≢true (sym h ∙ part.child q p e))
 
-  -- The following lemmas are about the tree `grown`: the part t of tree s after adding a leaf of s and the leaf's
-  -- ancestors.
+  -- The following lemmas are about the tree `grown`: tree t with the leaf `leaf` of tree s and the leaf's ancestors
+  -- added.
   brought_parent : (q : RevId) → is_among q revs ≡ true → get grown.parents q ≡ get s.parents q
   brought_parent q among =
       let edge : find rev_cmp q (edges_of revs) ≡ get s.parents q = edges_walked s tree leaf.generation leaf q known (omega arith) among in
@@ -221,7 +222,7 @@ module _ (s t : TreeValue) (tree : IsTree s) (part : IsPart s t) (leaf : RevId) 
 
 -- ---- the complete tree
 
--- If a part has a revision, the part has every revision that the traversal from the revision visits.
+-- A part of tree s that has a revision also has each of the revision's ancestors that a traversal of s visits.
 part_walked : (s t : TreeValue) → IsPart s t → (n : ℕ) (x r : RevId) → has t x ≡ true → is_among r (walk s.parents n x) ≡ true → has t r ≡ true
 part_walked s t part zero x r there h = elim (or_cases _ _ h) [ inl tie ↦ ap (has t) (rev_tie_is r x tie) ∙ there | inr nothing ↦ absurd (false≢true nothing) ]
 part_walked s t part (suc n) x r there h =

@@ -1,6 +1,6 @@
--- Defines the tournament that finds the winner of a revision tree: a binary tree of matches between the leaves, which
--- are the players. A player (a leaf) is stored as the index of its node, counted from 1. At an index of the tournament
--- that has no player (leaf), the number 0 is stored.
+-- Defines the comparison tree (`Tournament`), which finds the winner of a revision tree. The comparison tree is a
+-- binary tree of comparisons between the leaves of the revision tree. A leaf is stored as the index of its node,
+-- counted from 1. The number 0 is stored at an index of the comparison tree that has no leaf.
 use Rattle.std.specs.Prelude.{◌≡◌, ℕ, zero, suc, ◌-◌, ◌/◌, ◌<◌, ◌≤◌, ◌^◌, ◌⊎◌, Bool, true, false, cond, List, length, get_or, Option, Some, None, is_some, option_map, nat_lt, slice_get}
 use Rattle.std.specs.declared.cmp.Ordering.{Ordering}
 use Rattle.std.specs.Ordering.{is_lt, bool_cmp, ordering_then}
@@ -17,18 +17,19 @@ Key = Bool × RevId
 abbrev pub key_of : NodeValue → Key
 key_of n = (deletes n, n.rev)
 
--- The winner's order of the keys of two nodes.
+-- The order of keys that decides which leaf wins: live revisions come before deletions, and then greater revisions come
+-- first.
 abbrev pub key_cmp : Key → Key → Ordering
 key_cmp a b = ordering_then (bool_cmp a.0 b.0) (rev_cmp b.1 a.1)
 
--- In the winner's order, the first of two keys comes before the second key, or equals it. The key `None` of a missing
--- leaf comes last.
+-- `IsBefore a b` says that a leaf with the key a wins over a leaf with the key b, or that both keys are equal. The key
+-- `None` means that a leaf is missing, and comes after every other key.
 abbrev pub IsBefore : Option Key → Option Key → Type 0
 IsBefore x None = Unit {0}
 IsBefore None (Some b) = ⊥
 IsBefore (Some a) (Some b) = is_lt (key_cmp b a) ≡ false
 
--- The key of the player that is stored as the given number, or `None` if the number is 0.
+-- The key of a node whose index, counted from 1, is a stored number. The number 0 has the key `None`.
 abbrev pub entry : List NodeValue → ℕ → Option Key
 entry nodes zero = None
 entry nodes (suc p) = option_map key_of (slice_get nodes p)
@@ -38,15 +39,16 @@ abbrev pub leaf_key : Option NodeValue → Option Key
 leaf_key None = None
 leaf_key (Some n) = cond n.has_child None (Some (key_of n))
 
--- The key of the player at index k of the tournament. The parameters of `under` are the nodes, the stored winners of
--- the matches, the number of nodes in the tournament, and k.
+-- The key of the leaf at index k of the comparison tree, or `None` if this index has no leaf. The parameters of `under`
+-- are the nodes, the stored winners of comparisons, the number of nodes entered into the comparison tree, and the index
+-- k.
 abbrev pub under : List NodeValue → List ℕ → ℕ → ℕ → Option Key
 under nodes winners entered k =
     cond (nat_lt k (length winners)) (entry nodes (get_or winners k 0))
     (cond (nat_lt (k - length winners) entered) (leaf_key (slice_get nodes (k - length winners))) None)
 
--- Each stored winner is a node in the tournament, and has a content. Each leaf in the tournament has a content. The key
--- of a node that has a content never changes.
+-- Each stored winner of a comparison is a node that was entered into the comparison tree, and has a content. Each leaf
+-- that was entered into the comparison tree has a content. The key of a node that has a content never changes.
 pub record IsHeld (nodes : List NodeValue) (winners : List ℕ) (entered : ℕ) : Type 0 where
   pub within : entered ≤ length nodes
   pub fits : entered ≤ length winners
@@ -54,20 +56,18 @@ pub record IsHeld (nodes : List NodeValue) (winners : List ℕ) (entered : ℕ) 
   pub contents : (i p : ℕ) (n : NodeValue) → get_or winners i 0 ≡ suc p → slice_get nodes p ≡ Some n → is_some n.content ≡ true
   pub leaves : (j : ℕ) (n : NodeValue) → j < entered → slice_get nodes j ≡ Some n → n.has_child ≡ false → is_some n.content ≡ true
 
--- In each match of a tournament except match x, no player (leaf) of the match comes before the stored winner in the
--- winner's order.
+-- In each comparison, except the comparison with index x, neither of the two leaves wins over the stored winner.
 pub record IsPlayed (nodes : List NodeValue) (winners : List ℕ) (entered x : ℕ) : Type 0 where
   pub held : IsHeld nodes winners entered
   pub ordered : (k : ℕ) → 2 ≤ k → k / 2 < length winners → (k / 2 ≡ x → ⊥) → IsBefore (entry nodes (get_or winners (k / 2) 0)) (under nodes winners entered k)
 
--- The stored number w represents the player at index k of the tournament.
+-- The number w is the stored form of the leaf at index k of the comparison tree.
 pub record IsEntry (nodes : List NodeValue) (winners : List ℕ) (entered k w : ℕ) : Type 0 where
   pub key : entry nodes w ≡ under nodes winners entered k
   pub within : w ≤ entered
   pub content : (p : ℕ) (n : NodeValue) → w ≡ suc p → slice_get nodes p ≡ Some n → is_some n.content ≡ true
 
--- The stored number w is `one` or `other`, and represents the one of these two players (leaves) that comes first in the
--- winner's order.
+-- The number w equals `one` or `other`, the stored forms of two leaves, and represents the leaf that wins.
 pub record IsWinnerOf (nodes : List NodeValue) (one other w : ℕ) : Type 0 where
   pub either : (w ≡ one) ⊎ (w ≡ other)
   pub first : IsBefore (entry nodes w) (entry nodes one)
@@ -80,7 +80,7 @@ pub record IsBestLeaf (nodes : List NodeValue) (place : ℕ) : Type 0 where
   pub leaf : node.has_child ≡ false
   pub best : (j : ℕ) (n : NodeValue) → slice_get nodes j ≡ Some n → n.has_child ≡ false → goes_before n (Some node) ≡ false
 
--- The invariant of a tree's stored nodes, their index and their tournament. The position of a node in the list of
+-- The invariant of a tree's stored nodes, their index and their comparison tree. The position of a node in the list of
 -- nodes, counted from 1, fits into 32 bits.
 pub record IsIndexed (nodes : List NodeValue) (places : PlacesValue) : Type 0 where
   pub few : length nodes < 2 ^ 32

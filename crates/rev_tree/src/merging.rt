@@ -18,11 +18,12 @@ use rev_core::{Rev, Sig};
 
 impl Nodes {
     /// Whether the tree has all edges (from child to parent) of an ancestry. Returns an error if a child's parent in
-    /// the tree differs from the child's parent in the ancestry. The error names the first of these children.
+    /// the tree differs from the child's parent in the ancestry. The error names the first revision in the ancestry
+    /// whose parents in ancestry and tree differ.
     ///
     /// If the tree has the complete ancestry, the call needs only one lookup, because each node stores the index of its
-    /// parent. If the tree has no parent for a child, the call looks up the parent that the ancestry gives. This lookup
-    /// first tries the parent of the tree's last node.
+    /// parent. If the tree has no parent for a child, the call looks up the parent that the ancestry gives. The lookup
+    /// of a parent first tries the parent of the tree's last node.
     pub(crate) fn knows_edges(&self, revs: &[Rev]) -> Result<bool, Contradiction>
         requires some { 0 < length revs.now }
         ensures edges { IfOk result (λ b. b ≡ list_all (has_edge (tree_of self.now.items)) (edges_of revs.now)) }
@@ -54,9 +55,10 @@ impl Nodes {
         Ok(all)
     }
 
-    /// Returns a guess for the index of the node of a child's parent. The guess is the index of the parent that the
-    /// tree has for the child. If the tree has no parent for the child, the guess is the index that the node before the
-    /// child's node has for its parent. Consecutive nodes are often leaves with the same parent.
+    /// Returns a likely index of the parent of the node at index `child`, or `None` if there is no guess. If the node's
+    /// parent is known, the returned index is the parent's index. If the node's parent is unknown, the returned index
+    /// is that of the parent of the previous node (index `child - 1`). Consecutive nodes are often leaves with the same
+    /// parent.
     fn near(&self, child: usize) -> Option<usize>
         requires { child < length self.now.items }
         ensures { IfSome result (λ i. i < length self.now.items) }

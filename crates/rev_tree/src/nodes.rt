@@ -24,8 +24,8 @@ use std::marker::Model;
 /// generation below the previous node.
 pub(crate) const MOST_WALKED: usize = 8;
 
-/// A merge counts the missing revisions only if the tree's nodes and the given revisions together are at most this
-/// number. A merge that counts the missing revisions reserves space only for these missing revisions.
+/// The maximum sum of a tree's nodes and the given revisions for which a merge counts the missing revisions. A merge
+/// that counts the missing revisions reserves space only for these missing revisions.
 const MOST_COUNTED: usize = 4;
 
 /// The maximum number of nodes of a tree. The index of a parent, counted from 1, has 32 bits.
@@ -115,10 +115,11 @@ impl Nodes {
         walked_to(&self.list, rev)
     }
 
-    /// Reserves space for inserting an ancestry, and returns the heap blocks that the inserted revisions need. Let n be the number of nodes plus the number of given revisions. If n
-    /// is at most `MOST_COUNTED`, the call reserves space only for the revisions that the tree lacks. If n is more than
-    /// `MOST_COUNTED` but at most `MOST_WALKED`, the call reserves exactly the space for all given revisions. The call
-    /// fails if the tree could get more than `MOST_NODES` nodes.
+    /// Reserves space for inserting an ancestry, and returns the heap blocks that the inserted revisions need. If the
+    /// sum of nodes and given revisions is at most `MOST_COUNTED`, the call reserves space only for the revisions that
+    /// the tree lacks. For a sum of nodes and given revisions from `MOST_COUNTED + 1` to `MOST_WALKED`, the call
+    /// reserves exactly the space for all given revisions. The call fails if the tree could get more than `MOST_NODES`
+    /// nodes.
     #[tactic(auto, using(crate::proofs::Rooms::count_within))]
     pub(crate) fn make_room(&mut self, revs: &[Rev]) -> Result<Vec<Box<Sig>>, AllocError>
         ensures items { self.new.items ≡ self.old.items }
@@ -193,9 +194,9 @@ impl Nodes {
         }
     }
 
-    /// Finds the winner by the tournament among the leaves, and returns the index of the winner's node. Returns `None`
-    /// if the tree has few nodes or no index, or if the tournament has no result. If the result is `None`, the caller
-    /// must scan the nodes.
+    /// Finds the winner with the comparison tree of the leaves, and returns the index of the winner's node. Returns
+    /// `None` if the tree has few nodes or no index, or if the comparison tree finds no winner. If the result is
+    /// `None`, the caller must scan the nodes.
     pub(crate) fn tournament_winner(&mut self) -> Option<usize>
         ensures items { self.new.items ≡ self.old.items }
         ensures first { IfSome result (λ place. (r : RevId)
@@ -264,9 +265,9 @@ fn walked_to(nodes: &[Node], rev: &Rev) -> Option<usize>
     None
 }
 
-/// Changes the index of the first `known` nodes in the list `nodes` to the index of all nodes (`index_for`). An index
-/// maps the hashes of revisions to positions in the list `nodes`, or is empty. The caller has reserved the space that
-/// the index needs.
+/// Extends the index `places`, which maps the hashes of the first `known` nodes to positions, to all nodes
+/// (`index_for`). An index maps the hashes of revisions to positions in the list `nodes`, or is empty. The caller has
+/// reserved the space that the index needs.
 fn index_rest(nodes: &[Node], places: &mut Places, known: usize)
     requires known { known ≤ length nodes.now }
     requires begun { places.old.entries ≡ index_for (revs_in (take known nodes.now)) }
@@ -355,7 +356,8 @@ fn push_node(list: &mut Vec<Node>, rev: &Rev, origin: Origin, blocks: &mut Vec<B
     ensures blocks { length blocks.old.items ≤ length blocks.new.items + blocks_of rev.now }
 {
     if SmallRev::is_long(rev) {
-        // The called functions get the parts of the origin, so that `origin` can stay in registers.
+        // The origin is passed as separate numbers, not by reference, so that the compiler can keep `origin` in
+        // registers.
         match origin {
             Origin::Local(number) => push_long_local(list, rev, number, blocks),
             Origin::Feed(session, number) => push_long_fed(list, rev, session.0, number, blocks),
@@ -365,7 +367,7 @@ fn push_node(list: &mut Vec<Node>, rev: &Rev, origin: Origin, blocks: &mut Vec<B
     }
 }
 
-/// Appends a node for a local revision that is stored in a heap block.
+/// Appends a node for a revision of a local write. The node stores the revision's signature in a heap block.
 #[inline(never)]
 fn push_long_local(list: &mut Vec<Node>, rev: &Rev, number: u64, blocks: &mut Vec<Box<Sig>>)
     requires space { vec_len list.old < vec_capacity list.old }
@@ -379,7 +381,8 @@ fn push_long_local(list: &mut Vec<Node>, rev: &Rev, number: u64, blocks: &mut Ve
     list.push_reserved(Node::new(small, Origin::Local(number)));
 }
 
-/// Appends a node for a revision of a session's feed that is stored in a heap block.
+/// Appends a node for a revision that came from a session's feed. The node stores the revision's signature in a heap
+/// block.
 #[inline(never)]
 fn push_long_fed(
     list: &mut Vec<Node>,
@@ -399,7 +402,7 @@ fn push_long_fed(
     list.push_reserved(Node::new(small, Origin::Feed(SessionId(session), number)));
 }
 
-/// Allocates a heap block for each revision that a node stores in a heap block.
+/// Allocates a heap block for each revision whose signature has more than 32 bytes.
 fn blocks_for(alloc: Global, revs: &[Rev]) -> Result<Vec<Box<Sig>>, AllocError>
     ensures { IfOk result (λ b. count_blocks revs.now ≤ length b.items) }
 {
@@ -469,9 +472,9 @@ fn once_new(nodes: &[Node], rev: &Rev) -> usize
     }
 }
 
-/// Reserves space in the list for the revisions of an ancestry. Let n be the number of nodes plus the number of given
-/// revisions. If n is at most `MOST_COUNTED`, the call reserves space only for the revisions that the list lacks. If n
-/// is more than `MOST_COUNTED` but at most `MOST_WALKED`, the call reserves exactly the space for all given revisions.
+/// Reserves space in the list for the revisions of an ancestry. If the sum of nodes and given revisions is at most
+/// `MOST_COUNTED`, the call reserves space only for the revisions that the list lacks. For a sum of nodes and given
+/// revisions from `MOST_COUNTED + 1` to `MOST_WALKED`, the call reserves exactly the space for all given revisions.
 #[tactic(auto, using(crate::proofs::Rooms::count_within))]
 fn reserve_nodes(list: &mut Vec<Node>, revs: &[Rev]) -> Result<(), AllocError>
     ensures items { list.new.items ≡ list.old.items }

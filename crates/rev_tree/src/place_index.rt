@@ -14,17 +14,17 @@ use std::marker::Model;
 /// share a hash, the table has the position of only one of these revisions, and a lookup of another revision with this
 /// hash scans the nodes. In practice, two revisions share a hash only if someone constructs them to do so.
 ///
-/// The table is empty, and takes no memory, if the tree has few nodes or if each node is one generation below the
-/// previous node.
+/// The table of hashes takes no memory for a tree with at most `MOST_WALKED` nodes. The table also takes no memory if
+/// each node is one generation below the previous node of the tree.
 ///
-/// The table also owns the tournament, which finds the winner among the leaves. A tree without a table therefore needs
-/// no memory for a tournament.
+/// A `Places` also owns the comparison tree (`Tournament`), which finds the winner among the leaves. If the table of
+/// hashes takes no memory, the comparison tree takes no memory.
 #[derive(Drop)]
 pub(crate) struct Places {
     index: Option<Box<Index>>,
 }
 
-/// The positions of nodes by hash, and the tournament among the leaves.
+/// The positions of nodes by hash, and the comparison tree of the leaves.
 #[derive(Drop)]
 struct Index {
     positions: IndexMap<u64, usize>,
@@ -134,9 +134,9 @@ impl Places {
         Ok(())
     }
 
-    /// Finds the winner by the tournament among the leaves, and returns the index of the winner's node.
+    /// Finds the winner with the comparison tree of the leaves, and returns the index of the winner's node.
     ///
-    /// Returns `None` if the table takes no memory, or if the tournament has no result.
+    /// Returns `None` if the table of hashes takes no memory, or if the comparison tree of the leaves finds no winner.
     pub(crate) fn first_leaf(&mut self, nodes: &[Node]) -> Option<usize>
         requires few { length nodes.now < 2 ^ 32 }
         requires played { IsPlayed nodes.now self.old.winners self.old.entered 0 }

@@ -1,4 +1,4 @@
-//! A tournament among the leaves of a tree, which finds the winner.
+//! A binary tree of comparisons between the leaves of a revision tree, which finds the winner.
 ghost use Rattle.std.specs.Prelude.{◌≡◌, ◌+◌, ◌/◌, ◌<◌, ◌≤◌, ◌^◌, [], true, IfSome, length};
 ghost use Rattle.rev_tree.specs.Tournament.{IsBestLeaf, IsEntry, IsHeld, IsPlayed, IsWinnerOf};
 
@@ -6,24 +6,24 @@ use crate::node::Node;
 use crate::winner::goes_before;
 use std::alloc::Global;
 
-/// The winners of a tournament's matches. Each match compares two leaves of a tree by the order that decides the
-/// winning revision.
+/// A comparison tree: the winners of comparisons between the leaves of a revision tree. Each comparison uses the order
+/// that decides the winning revision.
 ///
-/// Match `i` is between the players at the indexes `2 * i` and `2 * i + 1`, and match 1 is the final. The tournament is
-/// a binary tree of matches, and the winner of match `i` is the player at index `i`. If node `n` takes part in the
-/// tournament and is a leaf, it is the player at index `winners.len() + n` of the tree of matches.
+/// Comparison `i` is between the leaves at the indexes `2 * i` and `2 * i + 1`. Comparison 1 gives the winner of all
+/// leaves. The winner of comparison `i` is the leaf at index `i` of the comparison tree. If node `n` was entered and is
+/// a leaf, its index in the comparison tree is `winners.len() + n`.
 ///
-/// The winner of a match is stored as its node's index, counted from 1, or as 0 if the match has no player. If the
-/// stored winner of a match is no longer a leaf, the index of its node stays stored until its matches are played again.
+/// The winner of a comparison is stored as its node's index, counted from 1, or as 0 if there is no leaf to compare. If
+/// the stored winner of a comparison is no longer a leaf, its index stays stored until the comparison is made again.
 #[derive(Drop)]
 pub(crate) struct Tournament {
     winners: Vec<u32>,
-    /// The number of nodes that take part in the tournament.
+    /// The number of nodes that were entered into the comparison tree.
     entered: usize,
 }
 
 impl Tournament {
-    /// Creates a tournament without nodes, which takes no memory.
+    /// Creates a comparison tree without nodes, which takes no memory.
     pub(crate) fn new(alloc: Global) -> Tournament
         ensures winners { result.winners.items ≡ [] }
         ensures entered { result.entered ≡ 0 }
@@ -34,11 +34,10 @@ impl Tournament {
         }
     }
 
-    /// Returns the index of the winning leaf's node. The call first adds the nodes that do not take part in the
-    /// tournament yet.
+    /// Returns the index of the winning leaf's node. The call first enters the nodes that the comparison tree lacks.
     ///
-    /// Returns `None` if an allocation fails or the tournament finds no winner. If the result is `None`, the caller
-    /// must scan the nodes.
+    /// Returns `None` if an allocation fails or the comparison tree finds no winner. If the result is `None`, the
+    /// caller must scan the nodes.
     pub(crate) fn first(&mut self, nodes: &[Node]) -> Option<usize>
         requires few { length nodes.now < 2 ^ 32 }
         requires played { IsPlayed nodes.now self.old.winners.items self.old.entered 0 }
@@ -61,8 +60,8 @@ impl Tournament {
         None
     }
 
-    /// Adds the nodes that do not take part in the tournament yet. Returns true if all nodes take part in the
-    /// tournament, and false if an allocation fails or a leaf has no content.
+    /// Enters all nodes that the comparison tree lacks. Returns true if the comparison tree has all nodes, and false if
+    /// an allocation fails or a leaf has no content.
     fn enter_all(&mut self, nodes: &[Node]) -> bool
         requires few { length nodes.now < 2 ^ 32 }
         requires played { IsPlayed nodes.now self.old.winners.items self.old.entered 0 }
@@ -86,9 +85,10 @@ impl Tournament {
         true
     }
 
-    /// If the tournament has fewer matches than the tree has nodes, the call restarts the tournament with two matches
-    /// for each node. Returns true if the tournament has enough matches for all nodes, and false if an allocation
-    /// fails.
+    /// Makes space for all nodes in the comparison tree. If the list of winners has fewer than two elements or is
+    /// shorter than the list of nodes, the call starts an empty comparison tree. The new list of winners has two
+    /// elements per node, and two more. Returns true if the comparison tree has space for all nodes, and false if an
+    /// allocation fails.
     fn make_matches(&mut self, nodes: &[Node]) -> bool
         requires few { length nodes.now < 2 ^ 32 }
         requires played { IsPlayed nodes.now self.old.winners.items self.old.entered 0 }
@@ -108,7 +108,8 @@ impl Tournament {
         true
     }
 
-    /// Plays the matches of a node again: the node's first match, and then each match on the way to the final.
+    /// Makes all comparisons again that involve the node at index `place`, from the node's first comparison up to
+    /// comparison 1.
     fn replay(&mut self, nodes: &[Node], place: usize)
         requires few { length nodes.now < 2 ^ 32 }
         requires place { place < self.old.entered }
@@ -125,7 +126,7 @@ impl Tournament {
         }
     }
 
-    /// Plays a match again.
+    /// Makes the comparison with index `at` again.
     fn play(&mut self, nodes: &[Node], at: usize)
         requires few { length nodes.now < 2 ^ 32 }
         requires between { (0 < at) × (at < length self.old.winners.items) }
@@ -139,8 +140,8 @@ impl Tournament {
         self.winners[at] = better(nodes, one, other);
     }
 
-    /// Returns the player at an index, in stored form: the index of the player's node, counted from 1, or 0 if the
-    /// index has no player.
+    /// Returns the leaf at an index of the comparison tree. The result is the index of the leaf's node, counted from 1,
+    /// or 0 if there is no leaf.
     fn player(&self, nodes: &[Node], at: usize) -> u32
         requires few { length nodes.now < 2 ^ 32 }
         requires held { IsHeld nodes.now self.now.winners.items self.now.entered }
@@ -158,7 +159,8 @@ impl Tournament {
     }
 }
 
-/// Returns the winner of a match between two players, each in its stored form.
+/// Returns the winning one of two leaves. A leaf is given as its node's index, counted from 1, and 0 means that a leaf
+/// is missing.
 fn better(nodes: &[Node], one: u32, other: u32) -> u32
     requires one { one ≤ length nodes.now }
     requires other { other ≤ length nodes.now }

@@ -142,7 +142,7 @@ impl Tree {
     }
 
     /// Returns a revision's known ancestor at a given distance. The distance is 0 for the revision itself and 1 for its
-    /// parent. Returns `None` if the tree does not know an ancestor at this distance.
+    /// parent. Returns `None` if the number of known ancestors is less than the distance.
     pub fn ancestor(&self, rev: Rev, place: usize) -> Option<Rev>
         requires { has self.now rev ≡ true }
         ensures { result ≡ slice_get (ancestors self.now rev) place }
@@ -318,8 +318,8 @@ impl Tree {
         }
     }
 
-    /// Merges an ancestry and the content of its head into the tree, as a union. New revisions get the given origin,
-    /// and the data that the tree already has does not change.
+    /// Merges an ancestry, with the content of its newest revision, into the tree as a union. New revisions get the
+    /// given origin, and the data that the tree already has does not change.
     ///
     /// If no error occurs, the call returns what `merge_answer` returns.
     ///

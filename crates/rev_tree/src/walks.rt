@@ -17,8 +17,8 @@ impl Nodes {
         requires tree { IsTree (tree_of self.now.items) }
         ensures { IfOk result (λ v. v.items ≡ ancestors_at self.now.items start) }
     {
-        // The resulting list has a revision and its ancestors. The length of the list is at most the number of nodes,
-        // and at most the revision's generation.
+        // The resulting list has a revision and its ancestors. The length of the list `revs` is limited by the tree's
+        // number of nodes, and by the generation of the first revision.
         let most = self
             .all()
             .len()
@@ -96,7 +96,7 @@ impl Nodes {
     }
 
     /// Whether the revision of the node at index `start`, or an ancestor of that revision, is one of the given
-    /// revisions. The call stores the result for all visited nodes.
+    /// revisions. In the table `told`, the call stores its result for each node that it visits.
     fn is_above(&self, told: &mut Vec<Option<bool>>, start: usize) -> bool
         requires within { start < length self.now.items }
         requires len { length told.old.items ≡ length self.now.items }

@@ -16,8 +16,9 @@ impl Nodes {
     /// previous winner's node, and `head` is the index of the node of the ancestry's head.
     ///
     /// If the ancestry's head is a leaf and goes before the previous winner in the order of leaves, the head is the
-    /// winner. Otherwise, if the previous winner is still a leaf, it stays the winner. If neither condition is true,
-    /// the call looks for the winner among all leaves.
+    /// winner. If the ancestry's head is not the winner, and the previous winner is still a leaf, the previous winner
+    /// stays the winner. If neither the ancestry's head nor the previous winner is the winner, the call looks for the
+    /// winner among all leaves.
     pub(crate) fn winner_after(&mut self, before: usize, head: usize) -> usize
         requires before { before < length self.old.items }
         requires head { head < length self.old.items }
@@ -60,8 +61,8 @@ impl Nodes {
         None
     }
 
-    /// Returns the index of the winner's node, from the tournament, or by scanning the nodes if the tournament has no
-    /// result.
+    /// Returns the index of the winner's node. The call scans all nodes if the comparison tree of the leaves finds no
+    /// winner.
     fn next_winner(&mut self) -> usize
         ensures items { self.new.items ≡ self.old.items }
         ensures first { (r : RevId)

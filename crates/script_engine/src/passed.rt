@@ -1,11 +1,11 @@
-//! The history of a stream, for contracts only.
+//! The bytes that came through a stream, as a ghost value that only contracts can use.
 ghost use Rattle.std.specs.Prelude.{◌≡◌, ℕ, List};
 ghost use Rattle.std.specs.Borrow.{ftrue};
 
 use std::marker::Model;
 
-/// All bytes that came through a stream, in order. The history takes no memory, because only contracts can see its
-/// bytes.
+/// All bytes that came through a stream, in order. A `Passed` takes no memory, because its field `bytes` is ghost: only
+/// contracts can use the field.
 #[derive(Drop)]
 pub struct Passed {
     pub ghost bytes: { List ℕ },
@@ -15,19 +15,19 @@ impl Model for Passed {
     ghost also_owns = { λ _. ftrue };
 }
 
-/// A step that extends the history of a stream.
+/// The start of a stream, or bytes that came through a stream after earlier bytes.
 #[derive(Clone, Copy, Drop)]
 pub(crate) enum Pass<'a> {
-    /// The step that begins the history of a stream. After this step, the history has no bytes.
+    /// The start of a stream, before any bytes came through the stream.
     Nothing,
-    /// The history before a step, and the bytes that the step appends.
+    /// All earlier bytes of the stream, and the bytes that follow the earlier bytes.
     More(&'a Passed, &'a [u8]),
 }
 
 impl Passed {
     ghost use Rattle.script_engine.specs.Passed.{passed_bytes};
 
-    /// Returns the history of a stream after the step `_pass`.
+    /// Returns all bytes that came through a stream up to the end of the step `_pass`.
     #[inline(always)]
     pub(crate) fn of(_pass: &Pass<'_>) -> Passed
         ensures { result.bytes ≡ passed_bytes _pass.now }
