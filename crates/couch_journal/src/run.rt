@@ -345,7 +345,7 @@ fn run_diff<R: ScriptRead, W: ScriptWrite>(
     Ok(wrong_or(task.wrong(), Outcome::Done))
 }
 
-/// Splits the input's lines into parts.
+/// Prints the input's lines in parts, with a maximum number of bytes and a maximum number of lines per part.
 fn run_parts<R: ScriptRead, W: ScriptWrite>(
     alloc: Global,
     bytes: u64,
