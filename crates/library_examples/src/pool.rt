@@ -1,6 +1,7 @@
-//! An example of a replication by several threads with a progress display. A shop with a thousand orders and a copy of
-//! the shop are two peers. Four fetchers and four writers copy the orders, while a viewer reads the progress. The
-//! example prints the progress to standard error.
+//! An example of a replication by several threads with a progress display. The example has two peers: a shop's
+//! database, which stores a thousand orders as documents, and a copy of this database. Four fetcher threads and four
+//! writer threads replicate the order documents, while a viewer thread reads the progress. The example prints the
+//! progress to standard error.
 ghost use Rattle.std.specs.Prelude.{◌≡◌, vec_len};
 ghost use Rattle.std.specs.List.{All};
 ghost use Rattle.progress_board.specs.Seats.{CameWith};
