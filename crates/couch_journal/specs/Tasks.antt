@@ -114,8 +114,8 @@ Fits named.Info o task = task ≡ tasks.Info
 abbrev pub Takes : Named → Options → Task → Type 0
 Takes n o task = (has_other_option n o ≡ false) × (arguments_given o ≡ arguments_of n) × Fits n o task
 
--- In the parsed command line o, the first argument names the task `task`, which takes the remaining arguments and the
--- options.
+-- In the parsed command line o, the argument `o.task` names the task `task`, which takes the remaining arguments and
+-- the options.
 abbrev pub IsTaskOf : Options → Task → Type 0
 IsTaskOf o task = (n : Named) × (o.task.now ≡ word_of n) × Takes n o task
 

@@ -20,9 +20,9 @@ use Rattle.pool_workers.specs.Workers.{FetcherKnows, WriterKnows}
 -- The channel rights, ghost counts and seats that the caller's thread has before the thread starts the workers. For
 -- each channel, the caller's thread has all 1,024 parts of the pass (the ghost right to use the channel), and both
 -- channels are unused. Before the workers start, the caller's thread has all parts of a ghost count of settled
--- documents, and the ghost count is 0. The caller's thread has an empty list `counts`, with capacity for the number of
--- documents that each fetcher will report. If the run has a progress board, the caller's thread has a seat (an access
--- token to the progress board) for each writer.
+-- documents, and the ghost count is 0. The caller's thread has an empty list `counts`, with capacity for one number
+-- from each fetcher. If the run has a progress board, the caller's thread has a seat (an access token to the progress
+-- board) for each writer.
 pub record IsReady {S L : Type 0} (channels : Channels S) (board : Option Board) (workers : ℕ) (o : Owned S L) : Type 0
   where
     pub counts : (o.counts.items ≡ []) × (workers ≤ vec_capacity o.counts)

@@ -51,7 +51,8 @@ WriterKnows in_hand w =
     × (w.share.amount + amounts in_hand ≡ amounts (view w.parcels).got))
 
 -- The settled counter of the writer's seat exceeds that of the earlier seat `given` by the number of documents that the
--- writer settled (`HaveShown`).
+-- writer settled (`HaveShown`). If the writer was not stopped, the read counter of its seat exceeds that of `given` by
+-- the same number.
 abbrev pub WriterShows : {S L : Type 0} → Option Board → Option BoardSeat → Writer S L → Type 0
 WriterShows board given w =
     AreBack board (option_to_list given) (option_to_list w.seat)

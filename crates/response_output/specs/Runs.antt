@@ -49,9 +49,9 @@ pub data WritesInPart (fault : ScriptFault) (made : List ℕ) (held held' : Opti
   nothing : Appends held held' [] → IsWhole fault [] → WritesInPart fault made held held'
 
 -- An error occurred at the end of a document, after the text `front` had been written for the beginning of the
--- document. The error is `LateMember` if the document's complete text does not begin with `front`. The error is
--- `Device` if the document's complete text begins with `front`, and the rest of the text was not written completely.
--- The parser has the state s at the document's end.
+-- document. The error is `LateMember` if the document's complete text does not begin with `front`. If the document's
+-- complete text begins with `front`, the error is `Device`: the reader, the writer or an allocation failed. After the
+-- error `Device`, the rest of the text was not written completely. The parser has the state s at the document's end.
 abbrev pub RestBreaks : AnswerFault → State → Words → List ℕ → Option (List ℕ) → Option (List ℕ) → Type 0
 RestBreaks (Refused why at) s w front held held' = ⊥
 RestBreaks (LateMember at) s w front held held' =

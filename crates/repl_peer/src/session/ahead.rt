@@ -1,4 +1,4 @@
-//! Settles documents at the beginning of a parcel in one step, if their trees and arrivals were built in advance.
+//! Settles documents at the beginning of a parcel in bulk, if their arrivals were built in advance.
 ghost use Rattle.std.specs.Prelude.{◌≡◌, ◌<◌, ◌≤◌, ◌+◌, ◌++◌, Some, Ok, true, false, map, length, take, drop, slice_get};
 ghost use Rattle.std.specs.List.{flat_map, list_all, list_any};
 ghost use Rattle.std.specs.Str.{bytes_eq};
