@@ -15,12 +15,13 @@ task_word = record (new_rule (codes "task")) { action = Some Set; value_names = 
 abbrev pub text_option : List ℕ → Rule
 text_option name = record (new_rule name) { long = Some name; action = Some Set; value_names = 1 }
 
--- The given command line after adding the positional arguments.
+-- The command line `app` with the program's three positional arguments added.
 abbrev pub with_arguments : App → App
 with_arguments app =
     with_rule (with_rule (with_rule app task_word) (hidden_option (codes "first"))) (hidden_option (codes "second"))
 
--- The given command line after adding the options.
+-- The command line `app` with the program's six options added, namely `at`, `doc`, `several`, `lacks`, `documents` and
+-- `unverified`.
 abbrev pub with_options : App → App
 with_options app = with_rule (with_rule (with_rule (with_rule (with_rule (with_rule
     app (text_option (codes "at"))) (text_option (codes "doc"))) (flag_option (codes "several")))
@@ -48,7 +49,8 @@ pub record AreGiven (text flag : List ℕ → Option (List ℕ)) (o : Options) :
 abbrev pub Says : List (List ℕ) → Options → Type 0
 Says words o = AreGiven (λ id. first_of id (matches_of command_line words)) (λ id. one_of id (matches_of command_line words)) o
 
--- Why `clap` reads no values from the arguments: `clap` returns an error, or an allocation fails.
+-- The reason why `clap` reads no values from the command line `words`: an error that `clap` reports, or a failed
+-- allocation.
 abbrev pub Refuses : List (List ℕ) → NoTask → Type 0
 Refuses words (Words error) = HasKind (fault_of command_line words) error
 Refuses words Unknown = ⊥

@@ -78,9 +78,9 @@ RunsResponse response ended input text (Err fault) =
 
 -- ---- `seal`
 
--- The output and the outcome of the task `seal`. If each single line of the input may be in a block, the output is the
--- line that seals a block of all these lines. If a block cannot contain a line of the input, the outcome has the
--- number, from 1, of the first such line, and the output is empty.
+-- The output and the outcome of the task `seal`. If a block can contain every line of the input, the output is the line
+-- that ends a block of all input lines. If a block cannot contain a line of the input, the outcome has the number, from
+-- 1, of the first such line, and the output is empty.
 abbrev pub Seals : List ℕ → List ℕ → List ℕ → List ℕ → Outcome → Type 0
 Seals chain seq input text outcomes.Done = IsSeal chain seq input text
 Seals chain seq input text (outcomes.Wrong line) =
@@ -98,8 +98,9 @@ RunsSeal chain seq ended input text (Err fault) = (text ≡ []) ⊎ (ended × Is
 
 -- The effect of running a task that reads its input line by line. The function `prints` gives the text that the task
 -- prints before the end of the input. The function `output` gives the complete output, and `outcome` gives the outcome.
--- After an error, the output is a prefix of the text for the first lines of the input. If the error occurred after the
--- end of the input was read, the output may instead be any prefix of the complete output.
+-- If the task fails, the output is a prefix of the text that `prints` gives for the input's first n lines, for some
+-- number n. A task that fails after it has read the end of its input may have written any prefix of its complete
+-- output.
 abbrev pub RunsLines : (List (List ℕ) → List ℕ) → (List (List ℕ) → List ℕ → List ℕ) → (List (List ℕ) → List ℕ → Outcome)
     → Type 0 → List ℕ → List ℕ → Result Outcome ScriptFault → Type 0
 RunsLines prints output outcome ended input text (Ok result) =
@@ -127,8 +128,8 @@ RunsReceived only ended input text result =
 
 -- ---- the tasks
 
--- How the output and the result of a task depend on the task's input. For the tasks that the definition does not name,
--- every output and every result is allowed.
+-- How the output and the result of a task depend on the task's input. For a task other than `Page`, `Refused`, `Info`,
+-- `Seal`, `Ask` and `Received`, every output and every result is allowed.
 abbrev pub RunsTask : Task → Options → Type 0 → List ℕ → List ℕ → Result Outcome ScriptFault → Type 0
 RunsTask (tasks.Page several) o ended input text result = RunsResponse (Page several) ended input text result
 RunsTask tasks.Refused o ended input text result = RunsResponse Refused ended input text result
@@ -154,9 +155,9 @@ RunsWords words ended input text (Ran result) =
     (o : Options) × (task : Task) × Says words o × IsTaskOf o task × RunsTask task o ended input text result
 
 -- A run of the program on its standard streams. The first arguments of `RunsStandard` are the command line, and the
--- statement that the reads reached the end of the input. The other arguments are the bytes that the reads returned, the
--- bytes that the output has accepted, and how the run ended. If the last output of a run cannot be flushed, a part of
--- this output is missing, and the run ends as `unflushed` says.
+-- statement that the reads reached the end of the input. The argument `input` has the bytes that the reads returned,
+-- `text` has the bytes that the output has accepted, and `ended` says how the run ended. If the last output of a run
+-- cannot be flushed, a part of this output is missing, and the run ends as `unflushed` says.
 abbrev pub RunsStandard : List (List ℕ) → Type 0 → List ℕ → List ℕ → Ended → Type 0
 RunsStandard words all input text ended =
     (first : Ended) × (rest : List ℕ) × RunsWords words all input (text ++ rest) first

@@ -38,8 +38,8 @@ abbrev pub ended_status : Ended → ℕ
 ended_status (NotRun why) = words_status why
 ended_status (Ran result) = status_of result
 
--- The result of a task whose last output could not be flushed. A task with the outcome `Done` or `Missing` fails with
--- `Write` instead, and any other result stays the same.
+-- The result of a task whose last output could not be flushed. A failed flush replaces the outcomes `Done` and
+-- `Missing` of a task by the error `Write`, and leaves any other result unchanged.
 abbrev pub unwritten : Result Outcome ScriptFault → Result Outcome ScriptFault
 unwritten (Ok Done) = Err faults.Write
 unwritten (Ok Missing) = Err faults.Write

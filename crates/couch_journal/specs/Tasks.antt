@@ -8,7 +8,7 @@ use Rattle.couch_journal.specs.declared.tasks.Named.TheVariants as named
 use Rattle.couch_journal.specs.declared.tasks.Task.{Task}
 use Rattle.couch_journal.specs.declared.tasks.Task.TheVariants as tasks
 
--- The command-line argument that names the given task.
+-- The command-line argument that selects a task, for example `page` for the task `Page`.
 abbrev pub word_of : Named → List ℕ
 word_of named.Page = codes "page"
 word_of named.Ask = codes "ask"
@@ -89,7 +89,7 @@ IsNumber (Some text) n =
     IsNumeral 10 (without_leading_plus text.now) × (digits_value 10 (without_leading_plus text.now) < 2 ^ 64)
     × (n ≡ digits_value 10 (without_leading_plus text.now))
 
--- The task `task` has the given name, and its values come from the arguments and options in o.
+-- The task `task` has the name n, and takes its values from the parsed arguments and options, which are in o.
 abbrev pub Fits : Named → Options → Task → Type 0
 Fits named.Page o task = task ≡ tasks.Page o.several
 Fits named.Ask o task = task ≡ tasks.Ask
@@ -109,12 +109,13 @@ Fits named.Name o task = (word : Bor (List ℕ)) × (o.first ≡ Some word) × (
 Fits named.Compare o task = task ≡ tasks.Compare o.documents
 Fits named.Info o task = task ≡ tasks.Info
 
--- The task with the name n takes the arguments and options in o. The value `task` is the task with the name n and with
--- the values in o (`Fits`).
+-- The task with the name n takes the arguments and options in o. The value `task` is the task named n, with values from
+-- the parsed arguments and options in o (`Fits`).
 abbrev pub Takes : Named → Options → Task → Type 0
 Takes n o task = (has_other_option n o ≡ false) × (arguments_given o ≡ arguments_of n) × Fits n o task
 
--- The command line with the options o names the given task.
+-- In the parsed command line o, the argument `o.task` names the task `task`, which takes the remaining arguments and
+-- the options.
 abbrev pub IsTaskOf : Options → Task → Type 0
 IsTaskOf o task = (n : Named) × (o.task.now ≡ word_of n) × Takes n o task
 

@@ -9,7 +9,7 @@ use script_engine::ScriptFault;
 /// The outcome of a task.
 #[derive(Drop)]
 pub(crate) enum Outcome {
-    /// The task found everything that it needs.
+    /// The task succeeded, which gives the exit status 0.
     Done,
     /// The task found that something is missing, refused or not found.
     Missing,
@@ -44,7 +44,7 @@ pub(crate) fn wrong_or(wrong: Option<u64>, otherwise: Outcome) -> Outcome
     }
 }
 
-/// Returns the outcome `Missing` if something is missing, otherwise `Done`.
+/// Returns the outcome `Missing` if `missing` is true, and otherwise `Done`.
 pub(crate) fn missing_or_done(missing: bool) -> Outcome
     ensures { result ≡ missing_or_done missing }
 {

@@ -1,8 +1,8 @@
 //! A program that reads and checks the journals of the jobs, and the responses of CouchDB that the jobs need.
 //!
 //! The crate `journal_core` has the checksums of journals, and the crate `journal_lines` has the lines of journals. The
-//! crates `journal_tasks` and `journal_responses` have the tasks. The crate `couch_journal` has the command line, the
-//! standard streams and the exit status.
+//! crates `journal_tasks` and `journal_responses` implement the program's tasks. The crate `couch_journal` has the
+//! command line, the standard streams and the exit status.
 #![tactic(auto)]
 
 mod ended;

@@ -16,9 +16,9 @@ use std::env::Env;
 use std::io;
 use std::io::{Eprint, Input, Print, Printer, Write};
 
-/// Runs the program, and returns its exit status. The exit status is 0 for success, help or version, 1 if something is
-/// missing, and 2 for a usage error. The exit status is 3 if the input is damaged or does not have the form that the
-/// task reads, or if reading, writing or an allocation failed.
+/// Runs the program, and returns its exit status. The exit status is 0 for success, help or version, 1 if the task's
+/// outcome is `Missing`, and 2 for a usage error. The exit status is 3 if the input is damaged or does not have the
+/// form that the task reads, or if reading, writing or an allocation failed.
 pub(crate) fn run_program<H: AllocGlobal + Env + Input + Print + Eprint>(rt: &H) -> u8
     ensures { result ≤ 3 }
 {
@@ -31,8 +31,9 @@ pub(crate) fn run_program<H: AllocGlobal + Env + Input + Print + Eprint>(rt: &H)
     }
 }
 
-/// Runs the program on standard input and output. Returns how the run ended, and both streams. The contract says which
-/// bytes the call read and wrote. The output is buffered, and flushed at the end of the run.
+/// Runs the program on standard input and output. Returns how the run ended, the reader of standard input, and the
+/// writer of standard output. The contract of `run_standard` says which bytes were read and written. The output is
+/// buffered, and flushed at the end of the run.
 ///
 /// # Errors
 ///

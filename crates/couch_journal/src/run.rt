@@ -345,7 +345,8 @@ fn run_diff<R: ScriptRead, W: ScriptWrite>(
     Ok(wrong_or(task.wrong(), Outcome::Done))
 }
 
-/// Splits the input's lines into parts.
+/// Prints the input's lines in parts of at most `bytes` bytes and `lines` lines. A single line that exceeds a maximum
+/// is a part of its own.
 fn run_parts<R: ScriptRead, W: ScriptWrite>(
     alloc: Global,
     bytes: u64,

@@ -10,7 +10,7 @@ use crate::options::Options;
 /// A task with its arguments.
 #[derive(Drop)]
 pub(crate) enum Task<'a> {
-    /// Prints the rows of a page of changes. If the Boolean is true, the task prints only the rows with several leaves.
+    /// Prints the rows of a page of changes. The task `Page(true)` prints only the rows with several leaves.
     Page(bool),
     /// Prints a `_bulk_get` request for the leaves of a list.
     Ask,
@@ -30,8 +30,8 @@ pub(crate) enum Task<'a> {
     /// Prints how much of a journal the journal's checksums confirm. If a sequence is given, the report ends at the
     /// last block of this sequence.
     Confirm(Option<&'a str>),
-    /// Prints the last state of each document of a journal, without verifying the journal's checksums if the Boolean is
-    /// true.
+    /// Prints the last state of each document of a journal. The task `States(true)` does not verify the journal's
+    /// checksums.
     States(bool),
     /// For each leaf in the last state of a document, prints the journal's last line that has this leaf. The number in
     /// `Select` is the size of the journal in bytes.
@@ -40,8 +40,8 @@ pub(crate) enum Task<'a> {
     Conflicts,
     /// Prints a line for each leaf. Each line begins with the given word.
     Name(&'a str),
-    /// Prints the leaves of one list that another list lacks. If the Boolean is true, the task prints only the leaves
-    /// of documents that the other list lacks.
+    /// Prints the leaves that the second of two lists has, and the first list lacks. The task `Compare(true)` prints
+    /// only the leaves of documents that the first list does not have.
     Compare(bool),
     /// Prints the identity of a server or of a database.
     Info,

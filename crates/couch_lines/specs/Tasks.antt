@@ -86,16 +86,16 @@ Fits named.Trees word whole svg (Leaves db) = ⊥
 Fits named.Trees word whole svg (Bulk n w) = ⊥
 Fits named.Trees word whole svg (Trees db s) = IsNamedOrNone word (option_map string_bytes db) × (whole ≡ false) × (s ≡ svg)
 
--- The task that the arguments of a command line name. The first argument is the name of the task, and there is no third
--- argument.
+-- The task that the arguments and flags of a command line select. The first argument is the name of the task, and there
+-- is no third argument.
 abbrev pub Asks : Option (List ℕ) → Option (List ℕ) → Option (List ℕ) → Bool → Bool → Task → Type 0
 Asks word second third whole svg task = (n : Named) × (word ≡ Some (word_of n)) × (third ≡ None) × Fits n second whole svg task
 
 -- ---- arguments without a task
 
 -- The reason why task n cannot be built from the argument `word` and the flags `whole` and `svg`. The reason is `Wrong`
--- only if task n does not accept the argument and flags. The reason `Memory` (a failed allocation) is possible for
--- every argument.
+-- only if the task named n does not accept the argument `word` and the flags `whole` and `svg`. For every argument, the
+-- reason may be `Memory`, which means that an allocation failed.
 abbrev pub FitsNone : Named → Option (List ℕ) → Bool → Bool → NoTask → Type 0
 FitsNone n word whole svg (Words error) = ⊥
 FitsNone n word whole svg Unknown = ⊥
@@ -103,7 +103,7 @@ FitsNone n word whole svg (Wrong m) = (m ≡ n) × ((t : Task) → Fits n word w
 FitsNone n word whole svg Memory = Unit {0}
 
 -- The reason why task n does not accept an argument. The reason is `Wrong` only if the argument is absent or is not a
--- database name. The reason `Memory` (a failed allocation) is possible for every argument.
+-- database name. For every argument, the reason may be `Memory`, which means that an allocation failed.
 abbrev pub NamesNone : Named → Option (List ℕ) → NoTask → Type 0
 NamesNone n word (Words error) = ⊥
 NamesNone n word Unknown = ⊥
@@ -111,8 +111,8 @@ NamesNone n word (Wrong m) = (m ≡ n) × ((db : List ℕ) → IsNamed word db �
 NamesNone n word Memory = Unit {0}
 
 -- The reason why the arguments of a command line name no task. The reason is `Unknown` only if the first argument is
--- not the name of a task. The reason is `Wrong` only if the named task does not accept the further arguments. The
--- reason `Memory` (a failed allocation) is possible for all arguments.
+-- not the name of a task. The reason is `Wrong` only if the first argument names a task that does not accept the
+-- remaining arguments and flags. For all arguments, the reason may be `Memory`, which means that an allocation failed.
 abbrev pub AskNothing : Option (List ℕ) → Option (List ℕ) → Option (List ℕ) → Bool → Bool → NoTask → Type 0
 AskNothing word second third whole svg (Words error) = ⊥
 AskNothing word second third whole svg Unknown = (n : Named) → word ≡ Some (word_of n) → ⊥

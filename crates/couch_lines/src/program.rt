@@ -20,8 +20,8 @@ use std::{io, str};
 
 /// Runs the program, and returns its exit status. The status is 0 on success, and 2 for a usage error. The status is 1
 /// if the program skipped an object or a line, or if an allocation for a line of `trees` failed. The status is 3 if the
-/// program rejects the input, if reading or writing failed, or if an allocation failed that is not for a line of
-/// `trees`.
+/// program rejects the input, or if reading or writing failed. A failed allocation for any purpose other than a line of
+/// `trees` also gives status 3.
 pub fn run_program<H: AllocGlobal + Env + Input + Print + Eprint>(rt: &H) -> u8
     ensures { result ≤ 3 }
 {
@@ -134,7 +134,8 @@ fn tell<H: Print + Eprint>(rt: &H, ended: &Ended) -> u8
     }
 }
 
-/// Reports the lines that `couch_replicate` does not print, or why drawing stopped early. Returns the exit status.
+/// Prints an error message if drawing stopped early, or if the input had lines that `couch_replicate` does not print.
+/// Returns the exit status.
 fn tell_drawn(rt: &impl Eprint, ended: &Result<Outcome, ScriptFault>) -> u8
     ensures { result ≡ drawn_status ended.now }
 {

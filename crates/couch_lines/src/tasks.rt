@@ -25,8 +25,9 @@ pub enum Task {
     /// The task `Bulk(n, whole)` writes bodies of `_bulk_docs` with at most `n` documents each. If `whole` is true, the
     /// task unwraps the documents from envelopes.
     Bulk(u64, bool),
-    /// The task `Trees(db, svg)` draws the output of a script, as SVG if `svg` is true and otherwise as text. If `db`
-    /// is the name of a database, a text picture also has the commands that resolve conflicts.
+    /// The task `Trees(db, svg)` draws the output of a script, as SVG if `svg` is true and otherwise as text. If
+    /// `Trees` draws as text and `db` is a database name, the output also has the commands that resolve the database's
+    /// conflicts.
     Trees(Option<String>, bool),
 }
 

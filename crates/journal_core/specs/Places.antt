@@ -7,7 +7,7 @@ use Rattle.journal_core.specs.declared.blocks.Took.{Took}
 use Rattle.journal_core.specs.declared.blocks.Took.TheVariants.{Held, Closed, Damaged}
 
 -- A reader's place in a journal has the last confirmed block's hash and sequence, the confirmed lines, and the lines of
--- the current block. The place's field `whole` is true if the reader has read no wrong checksum.
+-- the current block. The field `whole` of a reader's place is true if the reader has not read a wrong checksum.
 pub record Place : Type 0 where
   pub chain : List ℕ
   pub seq : List ℕ
@@ -26,7 +26,7 @@ seq_of count line = drop (length (sum_head count) + 65) line
 unfoldable pub hash_at : Place → List ℕ → List ℕ
 hash_at place line = block_hash place.chain (seq_of (length place.held) line) (joined place.held)
 
--- The line that would end the current block with a right checksum and with the sequence in the given line.
+-- The line that ends the current block with a right checksum, if the sequence in `line` is the block's sequence.
 unfoldable pub right_end : Place → List ℕ → List ℕ
 right_end place line = sum_line (length place.held) (hash_at place line) (seq_of (length place.held) line)
 
@@ -69,7 +69,7 @@ next place line = if place.whole then (if is_sum line then ended place line else
 abbrev pub place_after : List (List ℕ) → Place
 place_after lines = fold next start lines
 
--- The fields of a journal reader (`blocks`) store the given place.
+-- The fields of the journal reader `blocks` store `place`, the reader's position in the journal.
 pub record IsAt (blocks : Blocks) (place : Place) : Type 0 where
   pub chain : blocks.chain.items ≡ place.chain
   pub seq : blocks.seq.items ≡ place.seq
@@ -79,7 +79,7 @@ pub record IsAt (blocks : Blocks) (place : Place) : Type 0 where
   pub lines : blocks.lines ≡ length place.confirmed
   pub whole : blocks.whole ≡ place.whole
 
--- Whether a journal ends at the given place with a confirmed block.
+-- Whether every line that a journal reader has read before the position `place` belongs to a confirmed block.
 abbrev pub is_confirmed : Place → Bool
 is_confirmed place = place.whole && nat_eq (length (joined place.held)) 0
 

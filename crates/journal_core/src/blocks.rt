@@ -13,8 +13,8 @@ use std::mem;
 pub enum Took {
     /// The line belongs to the current block of the journal.
     Held,
-    /// The line ends a block of the journal with a right checksum, which confirms the block. The variant has the bytes
-    /// of the block's lines.
+    /// The line ends a block of the journal with a right checksum, which confirms the block. The variant `Closed` has
+    /// the bytes of the block's lines, without the line that ends the block.
     Closed(Vec<u8>),
     /// The line ends a block with a wrong checksum, or follows a line with a wrong checksum.
     Damaged,

@@ -11,7 +11,8 @@ use std::alloc::{AllocError, Global};
 use std::mem;
 
 /// Returns the number of lines before the first wrong line, or `None` if no line is wrong. The argument `before` is the
-/// result for the earlier lines, and `wrong` says whether the line after the first `count` lines is wrong.
+/// result of `wrong_after` for the first `count` lines. The argument `wrong` says whether the line after the first
+/// `count` lines is wrong.
 fn wrong_after(before: Option<u64>, wrong: bool, count: u64) -> Option<u64>
     ensures { result ≡ wrong_after before wrong count }
 {

@@ -68,7 +68,7 @@ fn meet(alloc: Global, net: &mut Net<Rules>, session: u128) -> Result<()> {
     Ok(())
 }
 
-/// Creates a plan for each laptop, with consecutive session ids.
+/// Creates one replication plan for each of the example's three laptops, with consecutive session ids from `first`.
 fn plans(alloc: Global, first: u128) -> Result<Vec<Plan>> {
     let mut plans = Vec::new(alloc);
     for number in 0..3u64 {

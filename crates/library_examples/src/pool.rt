@@ -1,6 +1,7 @@
-//! An example of a replication by several threads with a progress display. A shop with a thousand orders and a copy of
-//! the shop are two peers. Four fetchers and four writers copy the orders, while a viewer reads the progress. The
-//! example prints the progress to standard error.
+//! An example of a replication by several threads with a progress display. The example has two peers: a shop's
+//! database, which stores a thousand orders as documents, and a copy of this database. Four fetchers and four writers
+//! replicate the order documents, while a viewer thread reads the progress. The example prints the progress to standard
+//! error.
 ghost use Rattle.std.specs.Prelude.{◌≡◌, vec_len};
 ghost use Rattle.std.specs.List.{All};
 ghost use Rattle.progress_board.specs.Seats.{CameWith};
@@ -23,7 +24,7 @@ use std::thread::{Threads, yield_now};
 /// The number of orders.
 const ORDERS: u64 = 1_000;
 
-/// The number of fetcher threads, and the number of writer threads.
+/// The number of fetchers, and the number of writers.
 const WORKERS: usize = 4;
 
 /// The maximum number of times that the viewer reads the progress board.

@@ -40,15 +40,16 @@ columns_of tables.Info =
 columns_of tables.Session =
     columns.From ∷ columns.To ∷ columns.Checked ∷ columns.Found ∷ columns.Read ∷ columns.Written ∷ columns.Failed ∷ []
 
--- The text ends with the given column, which has the number n, and `front` is the text before this column.
+-- The text `text` consists of `front` and then the column `column`, whose number is n.
 pub record EndsIn (column : Column) (n : ℕ) (front text : List ℕ) : Type 0 where
   pub word : List ℕ
   pub lacks_blank : lacks 32 word ≡ true
   pub form : text ≡ front ++ named (column_text column) word
   pub number : IsNumber word n
 
--- The text consists of `front` and then the given columns with the given numbers. The lists `columns` and `numbers` are
--- in reverse order: both begin with the item for the text's last column.
+-- The text `text` consists of `front` and then the columns in the list `columns`, with the numbers in the list
+-- `numbers`. The lists `columns` and `numbers` are in reverse order: both begin with the item for the text's last
+-- column.
 abbrev pub Ends : List Column → List ℕ → List ℕ → List ℕ → Type 0
 Ends columns numbers front text = InTurn EndsIn columns numbers front text
 

@@ -83,7 +83,7 @@ NoTree line =
     ((id : List ℕ) (count : ℕ) → IsDocLine line id count → ⊥) × ((live : Bool) (revs : List RevId) → IsLeafLine line live revs → ⊥)
     × ((id : List ℕ) (revs : List RevId) → IsListed (codes "conflict ") line id revs → ⊥)
 
--- The line has no format of `compare`, of a line of numbers, or of a log.
+-- The line is not a line of `compare` about a document, not a line of numbers, and not a log.
 abbrev pub NoMore : List ℕ → Type 0
 NoMore line = ((finding : Finding) → NoFinding line finding) × ((table : Table) → NoRow line table) × NoLog line
 

@@ -7,8 +7,8 @@ use Rattle.output_parser.specs.declared.told.Entry.{Entry}
 use Rattle.output_parser.specs.declared.told.Member.{Member}
 use Rattle.output_parser.specs.declared.told.Member.TheVariants as members
 
--- The text that precedes the value of a session's member in a log. The byte after a member's value is the closing
--- quotation mark if the value is a string, and otherwise a comma.
+-- In a log, the text of a session's member up to the member's value, for example `"docs_read":`. The byte after a
+-- member's value is the closing quotation mark if the value is a string, and otherwise a comma.
 abbrev pub member_text : Member → List ℕ
 member_text members.Failed = codes "{\"doc_write_failures\":"
 member_text members.Read = codes "\"docs_read\":"

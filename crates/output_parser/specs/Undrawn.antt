@@ -9,7 +9,8 @@ use Rattle.output_parser.specs.declared.told.Told.TheVariants as told
 abbrev pub begins : List ℕ → List ℕ → Bool
 begins line word = starts_with nat_eq line word
 
--- Whether the line begins as a line about changes of a database, or as a count of listed lines.
+-- Whether the line begins with the first word of an output line about a database, such as `made`, `edited` or
+-- `conflicts`.
 abbrev pub is_of_changes : List ℕ → Bool
 is_of_changes line =
     begins line (codes "made ") || begins line (codes "there ") || begins line (codes "loaded ")
@@ -17,21 +18,23 @@ is_of_changes line =
     || begins line (codes "last ") || begins line (codes "backed ") || begins line (codes "restored ")
     || begins line (codes "conflicts ")
 
--- Whether the line begins as a line about a session or an audit, or as an error line. A line of `audit` is `clean`.
+-- Whether the line begins as a line about a session or an audit, or as an error line. The line `clean`, which the
+-- command `audit` prints, must match completely.
 abbrev pub is_of_sessions : List ℕ → Bool
 is_of_sessions line =
     bytes_eq line (codes "clean") || begins line (codes "progress ") || begins line (codes "stopped ")
     || begins line (codes "hole ") || begins line (codes "denied ") || begins line (codes "contradicted ")
     || begins line (codes "ledger ") || begins line (codes "refused ")
 
--- Whether the line begins as a document, and not as a log.
+-- Whether the line begins like the JSON text of a document, and not like a log, whose id begins with `_local/`.
 abbrev pub is_document : List ℕ → Bool
 is_document line = begins line (codes "{\"_id\":\"") && not (begins line (codes "{\"_id\":\"_local/"))
 
--- Whether the line begins as an output line of `couch_replicate` that is not drawn.
+-- Whether the line begins like an output line of `couch_replicate` that pictures do not show.
 abbrev pub is_undrawn : List ℕ → Bool
 is_undrawn line = is_of_changes line || is_of_sessions line || is_document line
 
--- The variant of a line that has none of the formats of drawn lines.
+-- The parsed form of a line that pictures do not show: `Other` if `couch_replicate` prints such lines, and otherwise
+-- `Unknown`.
 abbrev pub other_of : List ℕ → Told
 other_of line = if is_undrawn line then told.Other else told.Unknown

@@ -21,8 +21,9 @@ pub record IsRevs (text : List ℕ) (revs : List RevId) : Type 0 where
   pub listed : slice_split (λ b. b == 44) text ≡ map rev_text revs
   pub each : AllByRecursion IsRev revs
 
--- If the given items, which have the given values, are removed from a text in order, the text `rest` is left. For an
--- item t with the value v, `Step t v after text` says that the text `after` is left if the item is removed from `text`.
+-- The text `rest` is left after the items of a list, each with its value, have been removed from a text in order. For
+-- an item t with the value v, `Step t v after text` says that the text `after` is left if the item is removed from
+-- `text`.
 abbrev pub InTurn : {T V : Type 0} → (T → V → List ℕ → List ℕ → Type 0) → List T → List V → List ℕ → List ℕ → Type 0
 InTurn Step [] [] rest text = text ≡ rest
 InTurn Step [] (v ∷ vs) rest text = ⊥

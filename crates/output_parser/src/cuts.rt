@@ -2,7 +2,7 @@
 ghost use Rattle.std.specs.Prelude.{◌≡◌, ◌++◌, ◌∷◌, List, ℕ, [], IfSome, IfNone, true};
 ghost use Rattle.output_parser.specs.Words.{lacks};
 
-/// Splits a text at the first occurrence of a byte. Returns `None` if the text does not have the byte.
+/// Splits a text at the first occurrence of a byte. Returns `None` if `byte` does not occur in `text`.
 pub fn cut_first(text: &[u8], byte: u8) -> Option<(&[u8], &[u8])>
     ensures some { IfSome result (λ x. (text.now ≡ x.0.now ++ byte ∷ x.1.now) × (lacks byte x.0.now ≡ true)) }
     ensures none { IfNone result (lacks byte text.now ≡ true) }
@@ -15,7 +15,7 @@ pub fn cut_first(text: &[u8], byte: u8) -> Option<(&[u8], &[u8])>
     None
 }
 
-/// Splits a text at the last occurrence of a byte. Returns `None` if the text does not have the byte.
+/// Splits a text at the last occurrence of a byte. Returns `None` if `byte` does not occur in `text`.
 pub fn cut_last(text: &[u8], byte: u8) -> Option<(&[u8], &[u8])>
     ensures some { IfSome result (λ x. (text.now ≡ x.0.now ++ byte ∷ x.1.now) × (lacks byte x.1.now ≡ true)) }
     ensures none { IfNone result (lacks byte text.now ≡ true) }
@@ -44,9 +44,9 @@ pub fn before<'a>(text: &'a [u8], end: &[u8]) -> Option<&'a [u8]>
     text.strip_suffix(end)
 }
 
-/// Splits a text that ends with a given name, then a space, and then a part without spaces. Returns the text before the
-/// name, and the part without spaces that follows the name and the space. Returns `None` if the text does not end with
-/// the name, a space, and a part without spaces.
+/// Splits a text that ends with a given name, then a space, and then a part without spaces. Returns the text before
+/// `name`, and the part without spaces at the end of the text. Returns `None` if the text does not end with the name, a
+/// space, and a part without spaces.
 pub fn cut_named<'a>(text: &'a [u8], name: &[u8]) -> Option<(&'a [u8], &'a [u8])>
     ensures some { IfSome result
         (λ x. (text.now ≡ x.0.now ++ (name.now ++ 32 ∷ x.1.now)) × (lacks 32 x.1.now ≡ true)) }

@@ -63,7 +63,8 @@ fn read_more(alloc: Global, line: &[u8]) -> Result<Told, AllocError>
     }
 }
 
-/// Returns the variant of a line that has none of the formats of drawn lines.
+/// Parses a line that pictures do not show. Returns `Other` if `couch_replicate` prints such lines, and otherwise
+/// `Unknown`.
 fn other_of(line: &[u8]) -> Told
     ensures { result ≡ other_of line.now }
 {
@@ -154,7 +155,7 @@ fn begins_with(revs: &[Rev], own: &[u8]) -> bool
 }
 
 /// Parses a line that has a given first word, a document id and revisions. Returns `None` if the line does not consist
-/// of this word, an id and revisions.
+/// of `word`, a document id and revisions.
 fn read_listed<'a>(
     alloc: Global,
     line: &'a [u8],

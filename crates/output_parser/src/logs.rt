@@ -28,7 +28,8 @@ pub fn read_log(alloc: Global, line: &[u8]) -> Result<Option<Log>, AllocError>
 }
 
 /// Parses the start of a log. Returns the replication id, and the text after the opening bracket of the list of
-/// sessions. Returns `None` if the line does not begin like a log.
+/// sessions. Returns `None` if the line does not begin with `{"_id":"_local/ID","history":[`, with a replication id ID
+/// in UTF-8.
 fn log_head(line: &[u8]) -> Option<(&str, &[u8])>
     ensures some { IfSome result (λ x. IsHead line.now x.0.now x.1.now) }
     ensures none { IfNone result ((id text : List ℕ) → IsHead line.now id text → ⊥) }

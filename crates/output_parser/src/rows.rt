@@ -65,7 +65,7 @@ fn columns_back(table: Table) -> &'static [Column]
 }
 
 /// Parses columns at the end of a text, the last column first, and returns the text before the columns. Returns `None`
-/// if the text does not end with the given columns.
+/// if the text does not end with the columns in the list `columns`, each with a number.
 fn read_columns<'a>(
     alloc: Global,
     text: &'a [u8],
@@ -87,7 +87,7 @@ fn read_columns<'a>(
 }
 
 /// Parses a column at the end of a text, and returns the text before the column. Returns `None` if the text does not
-/// end with the given column.
+/// end with the column `column` and a number.
 fn cut_column(text: &[u8], column: Column) -> Option<(&[u8], u64)>
     ensures some { IfSome result (λ x. EndsIn column x.1 x.0.now text.now) }
     ensures none { IfNone result ((front : List ℕ) (n : ℕ) → EndsIn column n front text.now → ⊥) }
@@ -99,8 +99,8 @@ fn cut_column(text: &[u8], column: Column) -> Option<(&[u8], u64)>
     }
 }
 
-/// Parses the text before the columns of a line of numbers, and returns the name in this text. Returns `None` if the
-/// text has another form, or if the name is not UTF-8.
+/// Parses `front`, the text before the columns of a line of numbers, and returns the name in `front`. Returns `None` if
+/// `front` is not the beginning of a line of the kind `table`, or if the name in `front` is not UTF-8.
 fn name_of(front: &[u8], table: Table) -> Option<&str>
     ensures some { IfSome result (λ name. IsFront table name.now front.now × IsUtf8 name.now) }
     ensures none { IfNone result ((name : List ℕ) → IsFront table name front.now → IsUtf8 name → ⊥) }
@@ -112,7 +112,7 @@ fn name_of(front: &[u8], table: Table) -> Option<&str>
     }
 }
 
-/// Returns the bytes of the name in the text before the columns of a line of numbers.
+/// Returns the bytes of the name in `front`, which is the text before the columns of a line of numbers.
 fn name_in(front: &[u8], table: Table) -> Option<&[u8]>
     ensures some { IfSome result (λ name. IsFront table name.now front.now) }
     ensures none { IfNone result ((name : List ℕ) → IsFront table name front.now → ⊥) }
@@ -124,7 +124,7 @@ fn name_in(front: &[u8], table: Table) -> Option<&[u8]>
     }
 }
 
-/// Returns the empty name if there is no text before the columns of the line.
+/// Returns the empty text as the name in a line of `compare`, or `None` if the line has text before its columns.
 fn empty_name(front: &[u8]) -> Option<&[u8]>
     ensures some { IfSome result (λ name. IsFront tables.Compared name.now front.now) }
     ensures none { IfNone result ((name : List ℕ) → IsFront tables.Compared name front.now → ⊥) }
@@ -132,7 +132,7 @@ fn empty_name(front: &[u8]) -> Option<&[u8]>
     if front.is_empty() { Some(front) } else { None }
 }
 
-/// Returns the name of a database. In the line, the name precedes the database's UUID.
+/// Returns the database name DB from the text `info DB uuid U`, with which a line of `info` begins.
 fn database_name(front: &[u8]) -> Option<&[u8]>
     ensures some { IfSome result (λ name. IsFront tables.Info name.now front.now) }
     ensures none { IfNone result ((name : List ℕ) → IsFront tables.Info name front.now → ⊥) }

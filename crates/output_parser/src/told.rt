@@ -23,7 +23,7 @@ pub enum Told {
     Row(Row),
     /// A log.
     Log(Log),
-    /// Any other line that `couch_replicate` prints.
+    /// A line that `couch_replicate` prints, and that pictures do not show.
     Other,
     /// A line that `couch_replicate` does not print.
     Unknown,
@@ -35,7 +35,7 @@ pub struct Found {
     pub finding: Finding,
     /// The id of the compared document as a JSON string.
     pub id: String,
-    /// The revisions in the line of `compare`.
+    /// The revisions that the output line of `compare` lists for the document.
     pub revs: Vec<Rev>,
 }
 
@@ -46,12 +46,12 @@ pub enum Finding {
     Missing,
     /// The target knows a different parent of the listed revision.
     Contradicts,
-    /// The listed leaves have different contents in the target.
+    /// The leaves that the line lists have other contents in the target than in the source.
     Differs,
 }
 
 impl Finding {
-    /// Returns the first word of a line of `compare` with the given finding.
+    /// Returns the text with which a line of `compare` begins if the line reports the finding `self`.
     pub fn text(self) -> &'static str
         ensures { result.now ≡ finding_text self }
     {
@@ -124,8 +124,8 @@ impl Table {
 /// The meaning of one number in an output line of captions and numbers, such as the totals that `compare` prints.
 #[derive(Clone, Copy, Debug, PartialEq, Eq)]
 pub enum Column {
-    /// The counts of `compare`: the source's documents and leaves, the leaves that the target lacks, contradicting
-    /// documents, and leaves that differ.
+    /// The counts of `compare`: the source's documents and leaves, the leaves that the target lacks, documents whose
+    /// revisions contradict the target's, and leaves whose contents differ.
     ComparedDocuments,
     ComparedLeaves,
     ComparedMissing,

@@ -9,7 +9,8 @@ pub fn is_undrawn(line: &[u8]) -> bool
     is_of_changes(line) || is_of_sessions(line) || is_document(line)
 }
 
-/// Whether a line begins as a line about changes of a database, or as a count of listed lines.
+/// Whether a line begins with the first word of an output line about a database, such as `made`, `edited` or
+/// `conflicts`.
 fn is_of_changes(line: &[u8]) -> bool
     ensures { result ≡ is_of_changes line.now }
 {

@@ -46,14 +46,14 @@ MayFill None = ⊥
 MayFill (Some b) = Unit {0}
 
 -- If the run has a progress board, each seat in the list `seats` is a worker's seat of this board. If the run has no
--- progress board, the list is empty.
+-- progress board, the list `seats` is empty.
 abbrev pub AreSeated : Option Board → List BoardSeat → Type 0
 AreSeated None seats = seats ≡ []
 AreSeated (Some b) seats = All (WorksAt b) seats
 
 -- If the run has a progress board, each seat in the list `seats` is a worker's seat of this board. If the run has a
 -- progress board, the length of `seats` plus `out` (the number of seats in use) is at least the number of workers. If
--- the run has no progress board, the list is empty.
+-- the run has no progress board, the list `seats` is empty.
 abbrev pub AreSeats : Option Board → ℕ → ℕ → List BoardSeat → Type 0
 AreSeats None out workers seats = seats ≡ []
 AreSeats (Some b) out workers seats = (workers ≤ length seats + out) × All (WorksAt b) seats
@@ -63,8 +63,9 @@ abbrev pub AreBack : Option Board → List BoardSeat → List BoardSeat → Type
 AreBack None given now = (given ≡ []) × (now ≡ [])
 AreBack (Some b) given now = AreRisen b given now
 
--- If the run has a progress board, the sum of the settled counters rises by n from the seats `given` to the seats
--- `now`. If the run has a progress board and no writer was stopped, the sum of the read counters rises by n.
+-- If the run has a progress board, the settled counters of the seats `now` exceed those of the seats `given` by n
+-- documents in total. If the run has a progress board and no writer was stopped, the read counters of `now` exceed
+-- those of `given` by n documents in total.
 abbrev pub HaveShown : Option Board → ℕ → Option Halt → List BoardSeat → List BoardSeat → Type 0
 HaveShown None n stopped given now = Unit {0}
 HaveShown (Some b) n stopped given now =
@@ -78,7 +79,7 @@ IsSeated (Some b) (Some s) = WorksAt b s
 IsSeated board seat = ⊥
 
 -- The values s and t are a writer's seat (the writer's access token to the progress board) before and after the writer
--- read n more documents. If the run has no progress board, s and t are equal.
+-- read n more documents. If the run has no progress board, the optional seats s and t are equal.
 abbrev pub HasRead : Option Board → ℕ → Option BoardSeat → Option BoardSeat → Type 0
 HasRead None n s t = t ≡ s
 HasRead (Some b) n (Some s) (Some t) =
@@ -96,18 +97,18 @@ abbrev pub HasRoom : Option Board → ℕ → Option BoardSeat → Type 0
 HasRoom (Some b) n (Some s) = s.settled + n ≤ s.read
 HasRoom board n seat = Unit {0}
 
--- The values s and t are a writer's seat (an access token to the progress board) before and after z - a documents were
--- added to the seat's settled counter. If the run has no progress board, s and t are equal.
+-- A writer's seat changes from s to t when z - a documents, for two counts z and a, are added to the seat's settled
+-- counter. If the run has no progress board, the optional seats s and t are equal.
 abbrev pub HasSettled : Option Board → ℕ → ℕ → Option BoardSeat → Option BoardSeat → Type 0
 HasSettled None a z s t = t ≡ s
 HasSettled (Some b) a z (Some s) (Some t) =
     WorksAt b t × (t.number ≡ s.number) × (t.read ≡ s.read) × (t.settled + a ≡ s.settled + z)
 HasSettled (Some b) a z s t = ⊥
 
--- The values s and t are a writer's seat (an access token to the progress board) before and after z - a documents were
--- added to the seat's settled counter. The read counter of t is at least the read counter of s. If the writer was not
--- stopped, the read counter of t exceeds the read counter of s by z - a. If the run has no progress board, s and t are
--- equal.
+-- A writer's seat changes from s to t when z - a documents, for two counts z and a, are added to the seat's settled
+-- counter. The read counter of the changed seat t is at least the read counter of the original seat s. If the writer
+-- was not stopped, z - a documents, for the two counts z and a, were also added to the seat's read counter. If the run
+-- has no progress board, the optional seats s and t are equal.
 abbrev pub HasWritten : Option Board → ℕ → ℕ → Option Halt → Option BoardSeat → Option BoardSeat → Type 0
 HasWritten None a z stopped s t = t ≡ s
 HasWritten (Some b) a z stopped (Some s) (Some t) =

@@ -8,8 +8,9 @@ use Rattle.pool_workers.specs.declared.fault.Halt.TheVariants as halts
 use Rattle.pool_workers.specs.declared.fault.PoolFault.{PoolFault}
 use Rattle.pool_workers.specs.declared.fault.PoolFault.TheVariants as faults
 
--- The errors that a run with a valid plan may return. The error is `Halted` only if the gate may stop a worker at the
--- point that the error names, and `BoardFull` only if `may_fill` is true. The error is never `Hole`.
+-- The errors that a run with a valid plan may return. A run returns `Halted` only if the gate, a callback, may stop
+-- workers at the stage that the error names. A run returns `BoardFull` only if `may_fill` is true. A run never returns
+-- `Hole`, the error about a leaf that the target does not cover.
 abbrev pub IsLateOn : Type 0 → (Place → Type 0) → PoolFault → Type 0
 IsLateOn may_fill may_stop faults.NoWorkers = ⊥
 IsLateOn may_fill may_stop faults.TooManyWorkers = ⊥
@@ -47,9 +48,9 @@ fault_of halts.BoardFull = faults.BoardFull
 fault_of halts.Memory = faults.Memory
 fault_of halts.Lost = faults.Memory
 
--- The reasons for which a worker may halt. A worker halts with `Stopped` only if the gate may stop a worker at the
--- halt's place, that is, the point at which the worker called the gate. A worker halts with `BoardFull` only if
--- `may_fill` is true. If a call on the target failed, the error satisfies `IsStepFault`.
+-- The reasons for which a worker may halt. A worker halts with `Stopped` only if the gate, a callback, may stop workers
+-- at the stage for which the worker called the gate. A worker halts with `BoardFull` only if `may_fill` is true. If a
+-- call on the target failed, the error satisfies `IsStepFault`.
 abbrev pub AllowsOn : Type 0 → (Place → Type 0) → Halt → Type 0
 AllowsOn may_fill may_stop (halts.Stopped place) = may_stop place
 AllowsOn may_fill may_stop (halts.Refused fault) = IsStepFault fault
@@ -70,7 +71,7 @@ SaysFull count board halt = Unit {0}
 abbrev pub SaysNoFull : Halt → Type 0
 SaysNoFull halt = SaysFull ⊥ ⊥ halt
 
--- The error of a run is the error that `fault_of` gives for one of the halts a, b and c.
+-- The error of a run is the error (`fault_of`) for one of a, b and c, the optional reasons why workers stopped early.
 abbrev pub IsOneFault : Option Halt → Option Halt → Option Halt → PoolFault → Type 0
 IsOneFault a b c fault =
     (halt : Halt) × (fault ≡ fault_of halt) × ((a ≡ Some halt) ⊎ ((b ≡ Some halt) ⊎ (c ≡ Some halt)))

@@ -1,4 +1,5 @@
--- Defines what is known after the workers of a run have ended, as specified in docs/PROFILE.md, "The pool".
+-- Defines the facts about windows, parcels and counts that hold after the workers of a run have ended (docs/PROFILE.md,
+-- "The pool").
 use Rattle.std.specs.Prelude.{◌≡◌, ◌⊎◌, ℕ, length, sum, Option, None, Some, IfSome}
 use Rattle.crossbeam_channel.specs.Claims.{view}
 use Rattle.pool_workers.specs.Faults.{AllowsOn, Allows}
@@ -12,19 +13,19 @@ use Rattle.pool_workers.specs.declared.gather.WrittenAll.{WrittenAll}
 use Rattle.pool_workers.specs.declared.parcels.ParcelView.{ParcelView}
 use Rattle.pool_workers.specs.declared.windows.WindowView.{WindowView}
 
--- What is known of the fetchers after they have ended. If no fetcher was stopped, the fetchers have counted all sent
--- parcels and all documents of these parcels. If no fetcher was stopped, the sent parcels have the numbers of the taken
--- windows.
+-- The facts about a run's fetchers that hold after all fetchers have ended. If no fetcher was stopped, the fetchers
+-- have counted all sent parcels and all documents of these parcels. If no fetcher was stopped, the fetchers have sent
+-- exactly one parcel, with the window's number, for each window that they took.
 abbrev pub FetchedKnows : WindowView → ParcelView → FetchedAll → Type 0
 FetchedKnows w p t =
     t.stopped ≡ None → (sum t.counts.items ≡ amounts p.sent) × (t.sent ≡ length p.sent) × (w.taken ≡ names p.sent)
 
--- What is known of the writers after they have ended. If no writer was stopped, the writers have counted all received
--- parcels and all documents of these parcels.
+-- The facts about a run's writers that hold after all writers have ended. If no writer was stopped, the writers have
+-- counted all received parcels and all documents of these parcels.
 abbrev pub WrittenKnows : ParcelView → ℕ → WrittenAll → Type 0
 WrittenKnows p amount t = t.stopped ≡ None → (amount ≡ amounts p.got) × (t.got ≡ length p.got)
 
--- Halt h is one of the halts a and b, or `CountFull`.
+-- The reason h why a worker stopped early is one of the optional reasons a and b, or `CountFull`.
 abbrev pub IsOneOf : Option Halt → Option Halt → Halt → Type 0
 IsOneOf a b h = (a ≡ Some h) ⊎ ((b ≡ Some h) ⊎ (h ≡ CountFull))
 

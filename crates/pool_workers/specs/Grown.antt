@@ -1,4 +1,5 @@
--- Defines statements about the target that the lock of a run protects, as specified in docs/PROFILE.md, "The pool".
+-- Defines statements about a run's target, which a lock protects during the run, as specified in docs/PROFILE.md, "The
+-- pool".
 use Rattle.std.specs.Prelude.{◌≡◌, ℕ, Bool, List, Option, Some}
 use Rattle.rev_tree.specs.declared.origin.SessionId.{SessionId}
 use Rattle.doc_json.specs.Document.{Document}

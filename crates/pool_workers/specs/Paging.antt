@@ -27,8 +27,8 @@ IsOneLess None less = less ≡ None
 IsOneLess (Some more) None = ⊥
 IsOneLess (Some more) (Some less) = more ≡ less + 1
 
--- Each window of a list is the page of the source's selected feed that begins at the window's lower bound. After the
--- windows of the list, the plan allows `more` further windows.
+-- Each window of a list is the page of the source's selected feed that begins at the window's lower bound. If the plan
+-- limits the number of windows, the run may store `more` windows in addition to the windows in the list.
 abbrev pub HasPages : DatabaseValue → Plan → Option ℕ → List WindowValue → Type 0
 HasPages source plan more windows =
     ((w : WindowValue) → Among w windows → IsNext source plan w) × AllowsMore plan.stop_after (length windows) more

@@ -17,11 +17,12 @@ use Rattle.pool_workers.specs.Parcels.{parcel_view}
 use Rattle.pool_workers.specs.Windows.{window_view}
 use Rattle.pool_workers.specs.Workers.{FetcherKnows, WriterKnows}
 
--- What the caller's thread has before the thread starts the workers. For each channel, the caller's thread has all
--- 1,024 parts of the pass (the ghost right to use the channel), and both channels are unused. The caller's thread also
--- has all parts of the ledger, which is a ghost count of settled documents. The ledger's count is 0 before the workers
--- start. The caller's thread also has an empty list with capacity for one count from each fetcher. If the run has a
--- progress board, the caller's thread has a seat (an access token to the progress board) for each writer.
+-- The channel rights, ghost counts and seats that the caller's thread has before the thread starts the workers. For
+-- each channel, the caller's thread has all 1,024 parts of the pass (the ghost right to use the channel), and both
+-- channels are unused. Before the workers start, the caller's thread has all parts of a ghost count of settled
+-- documents, and the ghost count is 0. The caller's thread has an empty list `counts`, with capacity for one number
+-- from each fetcher. If the run has a progress board, the caller's thread has a seat (an access token to the progress
+-- board) for each writer.
 pub record IsReady {S L : Type 0} (channels : Channels S) (board : Option Board) (workers : ℕ) (o : Owned S L) : Type 0
   where
     pub counts : (o.counts.items ≡ []) × (workers ≤ vec_capacity o.counts)
@@ -30,11 +31,11 @@ pub record IsReady {S L : Type 0} (channels : Channels S) (board : Option Board)
     pub all : (o.all.parts ≡ workers) × (o.all.amount ≡ 0)
     pub seats : AreSeats board 0 workers o.seats.items
 
--- What the caller's thread has after the workers have ended. The caller's thread has the seats (access tokens) of the
--- progress board again. If all workers were started, the caller's thread has, for each channel, all 1,024 parts of the
--- pass (the ghost right to use the channel). If all workers were started, the caller's thread also has all parts of the
--- ledger (a ghost count of settled documents). If all workers were started, the caller's thread knows the workers'
--- counts, and the reasons why workers halted.
+-- The channel rights, ghost counts, seats and results that the caller's thread has after the workers have ended. The
+-- caller's thread has the seats (access tokens) of the progress board again. If all workers were started, the caller's
+-- thread has, for each channel, all 1,024 parts of the pass (the ghost right to use the channel). If all workers were
+-- started, the caller's thread has collected all parts of the ghost count of settled documents. If all workers were
+-- started, the caller's thread knows the workers' counts, and the reasons why workers halted.
 pub record HaveEnded {S L : Type 0} (channels : Channels S) (board : Option Board) (may_stop : Place → Type 0)
     (workers : ℕ) (given : List BoardSeat) (ended : Option (Ended S L)) (seats : List BoardSeat) : Type 0 where
   pub window_seat : IfSome ended (λ e. IsSeatAt (sends_on channels.to_fetchers) e.windows)

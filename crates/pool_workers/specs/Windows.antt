@@ -10,15 +10,15 @@ use Rattle.pool_workers.specs.declared.windows.WindowMessage.TheVariants.{Window
 abbrev pub window_view : ℕ → ℕ → ℕ → List ℕ → WindowView
 window_view parts reads count taken = record { parts = parts; reads = reads; count = count; taken = taken }
 
--- Only the page reader has sent windows. A thread that has no part of the window channel's pass (the ghost right to use
--- the channel) is not the page reader, and has taken no windows.
+-- Only the page reader has sent windows. A thread without any right to use the channel of windows is not the page
+-- reader, and has taken no windows.
 abbrev pub KeepsRole : List WindowView → Type 0
 KeepsRole views =
     (port : ℕ) (v : WindowView) → get_elem? views port ≡ some v
     → (v.reads ≡ 0 → v.count ≡ 0) × (v.parts ≡ 0 → (v.taken ≡ []) × (v.reads ≡ 0))
 
 module _ {S : Type 0} where
-  -- The numbers of the windows in a list of messages.
+  -- The list of the numbers that identify the windows in a list of messages.
   abbrev pub numbers : List (WindowMessage S) → List ℕ
   numbers [] = []
   numbers (Window number page ∷ xs) = number ∷ numbers xs
@@ -30,7 +30,7 @@ module _ {S : Type 0} where
   abbrev pub has_taken : WindowView → WindowMessage S → WindowView
   has_taken v x = window_view v.parts v.reads v.count (v.taken ++ numbers (x ∷ []))
 
-  -- The queued and the taken windows have exactly the numbers below the page reader's count, each once.
+  -- If the page reader has sent n windows, the queued and the taken windows have the numbers 0 to n - 1, each once.
   abbrev pub Numbered : List (WindowMessage S) → List WindowView → Type 0
   Numbered items views =
       (total (λ (v : WindowView). v.parts) views ≡ 1024)
@@ -39,8 +39,7 @@ module _ {S : Type 0} where
       ≡ once_below x (total (λ (v : WindowView). v.count) views))
       × KeepsRole views
 
-  -- What a thread knows if the thread has the complete pass (the ghost right to use a channel) of the channel of
-  -- windows. If n windows were sent, the windows that were taken or are still in the channel have exactly the numbers
-  -- below n, each once.
+  -- The fact that a thread knows if no other thread has a right to use the channel of windows. If n windows were sent,
+  -- the windows that were taken or are still in the channel have exactly the numbers below n, each once.
   abbrev pub Covers : WindowView → List (WindowMessage S) → Type 0
   Covers v items = (x : ℕ) → times x v.taken + times x (numbers items) ≡ once_below x v.count

@@ -1,9 +1,10 @@
-//! Brands are type parameters with ghost members, which are values that exist only in proofs. The ghost members of a
-//! brand state facts about the source or the target of a run. The call of `repl_pool` that starts a run chooses the
-//! run's brands, and thereby fixes the source and the target to which contracts refer.
+//! Brands are type parameters with ghost members, which are values that exist only in proofs. A run has a type
+//! parameter of this kind for its source, and one for its target, and the ghost members state facts about these peers.
+//! When `repl_pool` starts a run, it chooses both type parameters, and thereby fixes the source and the target to which
+//! contracts refer.
 //!
 //! If a lock protects a value, or a channel carries a value, contracts know only the invariant of the value's type. If
-//! a type has a brand as a type parameter, the invariant of the type may refer to the brand's ghost members.
+//! a type has a brand (a type parameter with ghost members), the invariant of the type may refer to the ghost members.
 use std::marker::Brand;
 
 /// A brand (a type parameter for proofs) with two members that exist only in proofs: the source's database, and the
@@ -33,8 +34,8 @@ impl SourceBrand for Brand {
     } };
 }
 
-/// A brand (a type parameter with values that exist only in proofs) that has one ghost member: the target that was
-/// given to the run, with the run's session.
+/// A type parameter for proofs with one ghost member: the peer that is the run's target, as given to the run, and the
+/// run's session.
 pub trait TargetBrand<F> {
     ghost use Rattle.std.specs.Prelude.{Option};
     ghost use Rattle.repl_peer.specs.peer.Peer.{PeerValue};

@@ -11,8 +11,9 @@ use std::sync::Mutex;
 use std::sync::ledger::Ledger;
 
 /// The state that all threads of a run share. The shared state has the runtime, the allocator, the two channels, the
-/// source, and the lock that protects the target. The shared state also has the gate, the plan, the optional board, the
-/// number of workers in each group, and facts about the given target. The steps of a worker are methods of `Context`.
+/// source, and the lock that protects the target. `Context` has the plan, the progress board, the number of workers in
+/// each group, and the gate, a callback that workers call at each stage. The field `given` has facts about the target
+/// at the start of the run. The steps of a worker are methods of `Context`.
 #[derive(Drop)]
 pub struct Context<'e, F: WriteFilter, S: SourceBrand, T: TargetBrand<F>, L: Ledger, G, R> {
     pub rt: &'e R,

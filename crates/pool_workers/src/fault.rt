@@ -14,7 +14,7 @@ use thiserror::Error;
 /// The reason why a worker, or the reading of windows, stopped.
 #[derive(Debug, Drop)]
 pub enum Halt {
-    /// The gate stopped the worker.
+    /// The gate, a callback that workers call at each stage, stopped the worker.
     Stopped(Place),
     /// A call on the target failed.
     Refused(TargetFault),
@@ -54,8 +54,8 @@ pub enum PoolFault {
     /// A step failed.
     #[error(transparent)]
     Refused(TargetFault),
-    /// The gate returned `Stop` at the place (the stage that a worker had reached with a window) that the variant
-    /// names.
+    /// The gate, a callback that workers call at each stage, returned `Stop`. The variant `Halted` names the stage and
+    /// the window's number.
     #[error("stopped by the gate")]
     Halted(Place),
     /// The first leaf of the source's feed above the session's start that the target does not cover after a run. No run

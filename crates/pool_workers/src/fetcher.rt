@@ -171,8 +171,8 @@ impl<F: WriteFilter, S: SourceBrand, T: TargetBrand<F>, L: Ledger, G: Gate, R: W
         self.target.lock(self.rt).diff(self.alloc, page)
     }
 
-    /// Counts the documents that the source has for the leaves of a page that the target lacks. The call fails if the
-    /// gate stops the fetcher or an allocation fails.
+    /// Finds the leaves of a page that the target lacks, and counts the source's documents with these leaves. Returns
+    /// an error if the gate, a callback that may stop workers, stops the fetcher, or if an allocation fails.
     fn bring(&self, number: u64, page: Paged<S>) -> Result<Found<S>, Halt>
         requires source { S.source ≡ self.now.source.now.1.db }
         ensures allowed { IfErr result (Allows (G.may_stop self.now.gate.now)) }

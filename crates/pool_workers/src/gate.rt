@@ -1,4 +1,4 @@
-//! The gate, and the places (stages of windows) at which a run may be stopped.
+//! Defines the gate, a callback that workers call at each stage of a window, and that may stop the run.
 ghost use Rattle.pool_workers.specs.declared.gate.Place.{Place};
 
 use std::sync::Wait;
@@ -28,26 +28,27 @@ pub enum Turn {
     Stop,
 }
 
-/// Decides whether a worker continues at a place, which is a stage that the worker has reached with a window. Workers
-/// call the gate without a lock, possibly from several threads. The gate may block.
+/// A callback that decides, at each stage that a worker reaches with a window, whether the worker continues. Workers
+/// call a `Gate` without a lock, possibly from several threads. A `Gate` may block.
 pub trait Gate {
     ghost use Rattle.pool_workers.specs.Gates.{Stops};
 
-    /// The set of places (stages that workers reach with a window) at which the gate may stop a worker.
+    /// The stages of windows at which a `Gate` may stop a worker.
     ghost may_stop: { Self → Place → Type 0 };
 
-    /// Returns whether a worker that has reached the given place continues with its work.
+    /// Returns `Go` if a worker that has reached the stage `place` continues with its work, and `Stop` if the worker
+    /// must stop.
     fn at<R: Wait>(&self, rt: &R, place: Place) -> Turn
         ensures { Stops result (may_stop self.now place) };
 
-    /// Whether a call of `at` may block a worker until another worker has reached a place (a stage of a window). If the
-    /// gate never blocks a worker, one thread may alternate between the work of two workers.
+    /// Whether a call of `at` may block a worker until another worker has reached a place (a stage of a window). If
+    /// `may_block` returns `false`, one thread may alternate between the work of two workers.
     fn may_block(&self) -> bool {
         true
     }
 }
 
-/// The gate that always returns `Go`.
+/// An implementation of `Gate` that never stops a worker.
 #[derive(Clone, Copy, Debug)]
 pub struct Open;
 

@@ -41,8 +41,8 @@ impl<F: WriteFilter, T: TargetBrand<F>> GivenTarget<F, T> {
     }
 
     /// Returns the request for all leaves of a page's rows, if the update sequence of the given target was 0. A target
-    /// with the update sequence 0 has no documents, and therefore lacks all leaves. The call needs no lock. Returns
-    /// `None` if the update sequence of the given target was not 0.
+    /// with the update sequence 0 has no documents, and therefore lacks all leaves. The method `diff` does not lock the
+    /// target. Returns `None` if the update sequence of the given target was not 0.
     pub fn diff<S: SourceBrand>(
         &self,
         alloc: Global,

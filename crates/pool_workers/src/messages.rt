@@ -87,8 +87,8 @@ impl<S: SourceBrand> Paged<S> {
         self.ready
     }
 
-    /// Copies the page. The returned page has no shortened copy of the window, even if `prepare` has built a shortened
-    /// copy for the original page.
+    /// Copies the page. The copied page does not have a prebuilt window without leaves (`DoneWindow`), even if
+    /// `prepare` has built one for the original page.
     pub fn copy(&self, alloc: Global) -> Result<Paged<S>, AllocError>
         ensures { IfOk result (λ p. p ≡ self.now) }
     {
@@ -141,8 +141,8 @@ impl<S: SourceBrand> Found<S> {
         })
     }
 
-    /// Counts the documents that the source would return for a request for all leaves of a page. The source has one
-    /// document for each leaf, so the call needs no lookup in the source.
+    /// Counts the documents that the source would return if all leaves of the page `page` were requested. The source
+    /// returns one document per leaf, so `whole` only counts leaves, and does not search the source.
     pub fn whole<F: WriteFilter>(source: &Peer<F>, asked: Asked, page: Paged<S>) -> Found<S>
         requires source { S.source ≡ source.now.1.db }
         requires whole { (db : DatabaseValue) × (db.docs ≡ []) × (asked ≡ revs_diff db page) }
@@ -157,7 +157,7 @@ impl<S: SourceBrand> Found<S> {
         }
     }
 
-    /// Returns the number of the source's documents for the request.
+    /// Returns the number of documents that the source returns for the requested leaves.
     pub fn documents(&self) -> u128
         ensures { result ≡ length self.now.docs }
     {
@@ -169,8 +169,8 @@ impl<S: SourceBrand> Found<S> {
         self.page.copy(alloc)
     }
 
-    /// Reads the documents at the source. If the caller names a session of the target, the call also prepares the
-    /// documents for this session.
+    /// Reads the documents at the source. If `session` is given, `fetch` also builds in advance the trees and arrivals
+    /// for settling the documents in this session.
     pub fn fetch<F: WriteFilter>(
         self,
         alloc: Global,
@@ -209,8 +209,8 @@ impl<S: SourceBrand> Model for Fetched<S> {
 }
 
 impl<S: SourceBrand> Fetched<S> {
-    /// Reads the documents that the source returns for a request for leaves of a page. If a session is given, the call
-    /// also prepares the documents for this session.
+    /// Reads the documents that the source returns for a request for leaves of a page. If `session` is given, `fetch`
+    /// also builds in advance the trees and arrivals for settling the documents in this session.
     pub fn fetch<F: WriteFilter>(
         alloc: Global,
         source: &Peer<F>,
@@ -232,14 +232,14 @@ impl<S: SourceBrand> Fetched<S> {
         })
     }
 
-    /// Returns the number of the source's documents for the request.
+    /// Returns the number of documents that the source returns for the requested leaves.
     pub fn documents(&self) -> u64
         ensures { result ≡ length self.now.docs }
     {
         self.ready.parcel().docs().len() as u64
     }
 
-    /// Returns the parcel with its prepared trees and arrivals.
+    /// Returns the parcel, with the trees and arrivals that were built in advance for its documents.
     pub fn into_ready(self) -> PreparedParcel
         ensures value { result ≡ self }
         ensures answer { IsAnswerOf S.source self }
@@ -285,8 +285,8 @@ fn grow_heap(alloc: Global) {
     }
 }
 
-/// Makes the C library keep up to twice `HEAP_KEPT` free bytes at the end of each thread's heap. The memory of a freed
-/// parcel then stays available to the thread.
+/// Makes the C library keep up to twice `HEAP_KEPT` free bytes at the end of each thread's heap. Free bytes at the end
+/// of a thread's heap let the thread reuse the memory of a freed parcel.
 ///
 /// By default, the C library releases the free memory at the end of a heap if this memory exceeds 128 KiB. The C
 /// library allocates large blocks directly from the system. After a large block was freed, each heap keeps free memory

@@ -9,17 +9,17 @@ use std::collections::LinkedList;
 /// A message from a fetcher to a writer.
 #[derive(Drop)]
 pub enum ParcelMessage<S: SourceBrand> {
-    /// A window's documents at the source, with the number of the window. The documents were counted by the fetcher,
-    /// and will be read by the writer.
+    /// A window's documents at the source, with the number of the window. The fetcher has counted the parcel's
+    /// documents, and the writer will read them from the source.
     Parcel { number: u64, fetched: Found<S> },
     /// The message after which a writer receives no further message from the channel of parcels.
     End,
 }
 
-/// What a thread knows about the channel of parcels. The field `parts` says how many of the 1,024 parts of the
-/// channel's pass (the ghost right to use the channel) the thread has. The fields `sent` and `got` list the parcels
-/// that the thread has sent and received, each as a pair of the parcel's number and its number of documents. No
-/// `ParcelView` exists at run time.
+/// A ghost value with the facts that a thread knows about the channel from the fetchers to the writers. The field
+/// `parts` says how many of the 1,024 parts of the channel's pass (the ghost right to use the channel) the thread has.
+/// The fields `sent` and `got` list the parcels that the thread has sent and received, each as a pair of the parcel's
+/// number and its number of documents. No `ParcelView` exists at run time.
 pub struct ParcelView {
     pub parts: u64,
     pub sent: LinkedList<(u64, u64)>,
@@ -27,7 +27,8 @@ pub struct ParcelView {
 }
 
 /// The rule that the channel of parcels always satisfies. The sent parcels are exactly the received and the queued
-/// parcels. The rule treats two parcels as equal if they have the same parcel number and the same number of documents.
+/// parcels. In the rule `Conserved`, two parcels are equal if they have the same parcel number and the same number of
+/// documents.
 pub struct Conserved;
 
 impl<S: SourceBrand> Protocol<ParcelMessage<S>, ParcelView> for Conserved {
@@ -39,8 +40,8 @@ impl<S: SourceBrand> Protocol<ParcelMessage<S>, ParcelView> for Conserved {
     ghost first = { parcel_view 1024 [] [] };
 }
 
-/// The rule by which passes are split and joined. A pass (the ghost right to use a channel) is split into two passes,
-/// one of which is for a worker.
+/// The rule by which the right to use the channel of parcels is split for workers, and joined again. A pass (the ghost
+/// right to use a channel) is split into two passes, one of which is for a worker.
 pub struct ParcelCut;
 
 impl Split<ParcelView> for ParcelCut {
@@ -99,8 +100,8 @@ impl<S: SourceBrand> Lesson<ParcelMessage<S>, ParcelView> for Whole {
     ghost fact = { Accounts };
 }
 
-/// A pass of the channel of parcels. A pass is a ghost value: it gives a thread the right to use the channel, and
-/// states what the thread knows about the channel.
+/// A ghost value that gives a thread the right to use the channel of parcels, and that states what the thread knows
+/// about the channel.
 pub type ParcelPass<S> = Pass<ParcelMessage<S>, ParcelView>;
 
 /// The sending end.

@@ -21,9 +21,9 @@ use std::sync::ledger::Ledger;
 /// The maximum number of pages that the reader reads before it stores these pages at the target.
 const MOST_AHEAD: u64 = 8;
 
-/// Pages that the reader has read from the source's feed, in order, and copies of these pages. The reader must store
-/// the copies at the target, and send the pages to the fetchers. The field `hi` is the sequence at which the last page
-/// ends, and the field `stopped` is the reason if reading failed.
+/// Pages that the reader has read from the source's feed, in order, and copies of these pages. The page reader must
+/// store the copied pages at the target, and send the original pages to the fetchers. The field `hi` is the sequence at
+/// which the last page ends, and the field `stopped` is the reason if reading failed.
 #[derive(Drop)]
 struct Ahead<S: SourceBrand> {
     pages: Vec<Paged<S>>,

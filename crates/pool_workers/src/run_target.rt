@@ -24,11 +24,11 @@ use std::marker::{Model, PhantomData};
 use std::sync::ledger::{Book, Ledger, Share};
 
 /// The target of a run: the given target after the calls that the run has made so far. The run calls the target's
-/// methods only with messages that come from the source. The ledger counts the documents that the run's session has
-/// read. If the plan limits the number of windows, `more` is the number of windows that the run may still store. The
-/// methods `append` and `record` do what the methods `append` and `record` of `Peer` do, for the run's session. The
-/// method `append` first checks that the plan allows another window. The method `settle_counted` settles a parcel, and
-/// adds the number of settled documents to a worker's ledger share.
+/// methods only with messages that come from the source. The field `ledger` of `RunTarget` is a ghost count of the
+/// documents that the run's session has read. If the plan limits the number of windows, `more` is the number of windows
+/// that the run may still store. The methods `append` and `record` do what the methods `append` and `record` of `Peer`
+/// do, for the run's session. The method `append` first checks that the plan allows another window. The method
+/// `settle_counted` settles a parcel, and adds the number of settled documents to a worker's part of the ghost count.
 #[derive(Drop)]
 pub struct RunTarget<F: WriteFilter, S: SourceBrand, T: TargetBrand<F>, L: Ledger> {
     target: Peer<F>,
@@ -170,8 +170,8 @@ impl<F: WriteFilter, S: SourceBrand, T: TargetBrand<F>, L: Ledger> RunTarget<F, 
         self.target.record(self.session, at)
     }
 
-    /// Returns the target after the caller has collected all shares of the ledger. The sum of all shares of the ledger
-    /// is the number of documents that the run's session has read.
+    /// Returns the target after the caller has collected the ghost counts of all workers. The sum of the workers' ghost
+    /// counts is the number of documents that the run's session has read.
     pub fn close(self, all: &mut Share<L>) -> Peer<F>
         requires { all.old.parts ≡ L.parts }
         ensures { (session : SessionId) × (more : Option ℕ)

@@ -130,10 +130,9 @@ fn sum_up<F: WriteFilter, S: SourceBrand, T: TargetBrand<F>, L: Ledger, G: Gate>
 }
 
 /// States three facts about the windows and parcels of a run, for use in proofs. The call needs, for each channel, all
-/// 1,024 parts of the channel's pass (the ghost right to use the channel). The first fact is that at most one fetcher
-/// took each window. The second fact is that at most one writer received each parcel, if no fetcher halted. The third
-/// fact holds if the numbers of sent and received parcels are equal: exactly the sent parcels were received, each with
-/// the same number of documents.
+/// 1,024 parts of the channel's pass (the ghost right to use the channel). At most one fetcher took each window. If no
+/// fetcher halted, at most one writer received each parcel. If the numbers of sent and received parcels are equal,
+/// exactly the sent parcels were received, each with the same number of documents.
 fn each_once<S: SourceBrand, L: Ledger>(channels: &Channels<S>, ended: &mut Ended<S, L>)
     requires window_seat { IsSeatAt (sends_on channels.now.to_fetchers) ended.old.windows }
     requires parcel_seat { IsSeatAt (sends_on channels.now.to_writers) ended.old.parcels }

@@ -15,10 +15,11 @@ pub enum WindowMessage<S: SourceBrand> {
     End,
 }
 
-/// What a thread knows about the channel of windows. The field `parts` says how many of the 1,024 parts of the
-/// channel's pass (the ghost right to use the channel) the thread has. The field `reads` is 1 for the page reader and 0
-/// for other threads, and `count` is the number of windows that the page reader has sent. The field `taken` has the
-/// numbers of the windows that the thread has taken. No `WindowView` exists at run time.
+/// A ghost value with the facts that a thread knows about the channel from the page reader to the fetchers. The field
+/// `parts` says how many of the 1,024 parts of the channel's pass (the ghost right to use the channel) the thread has.
+/// The field `reads` is 1 for the page reader and 0 for other threads, and `count` is the number of windows that the
+/// page reader has sent. The field `taken` has the numbers of the windows that the thread has taken. No `WindowView`
+/// exists at run time.
 pub struct WindowView {
     pub parts: u64,
     pub reads: u64,
@@ -62,7 +63,8 @@ impl Join<WindowView> for WindowCut {
     ghost spent = { window_view 0 0 0 [] };
 }
 
-/// The call by which the page reader sends a message.
+/// The step in which the page reader, the thread that reads pages from the source's feed, sends a message to the
+/// fetchers.
 pub struct Reads;
 
 impl<S: SourceBrand> Outcome<WindowMessage<S>, WindowView> for Reads {
@@ -90,8 +92,7 @@ impl<S: SourceBrand> Lesson<WindowMessage<S>, WindowView> for Takes {
     ghost fact = { λ _ _. Unit {0} };
 }
 
-/// What a thread knows about the channel of windows if the thread has all 1,024 parts of the channel's pass (the ghost
-/// right to use the channel).
+/// The fact that a thread knows if no other thread has a right to use the channel of windows.
 pub struct AllTaken;
 
 impl<S: SourceBrand> Lesson<WindowMessage<S>, WindowView> for AllTaken {
@@ -100,8 +101,8 @@ impl<S: SourceBrand> Lesson<WindowMessage<S>, WindowView> for AllTaken {
     ghost fact = { Covers };
 }
 
-/// A pass of the channel of windows. A pass is a ghost value: it gives a thread the right to use the channel, and
-/// states what the thread knows about the channel.
+/// A ghost value that gives a thread the right to use the channel of windows, and that states what the thread knows
+/// about the channel.
 pub type WindowPass<S> = Pass<WindowMessage<S>, WindowView>;
 
 /// The sending end.

@@ -1,4 +1,4 @@
-//! The steps of a writer.
+//! The steps of a writer, a worker that settles parcels at the target and records the session's low water.
 ghost use Rattle.std.specs.Prelude.{◌≡◌, ◌+◌, ◌-◌, ◌^◌, ◌<◌, [], ◌∷◌, length, IfSome, IfErr, OnOk, Option, None, option_copied};
 ghost use Rattle.crossbeam_channel.specs.Claims.{view, IsSeatAt};
 ghost use Rattle.crossbeam_channel.specs.Ends.{receives_on};
@@ -24,10 +24,10 @@ use rev_tree::SessionId;
 use std::sync::Wait;
 use std::sync::ledger::{Ledger, Share};
 
-/// A writer of the pool. A writer has a pass (the ghost right to use a channel) of the channel of parcels, and a share
-/// of the ledger (a ghost count of settled documents). If the run has a progress board, a writer also has a seat (an
-/// access token to the progress board). A writer also has the number of parcels that it settled, and the reason why it
-/// stopped.
+/// The state of a writer, a worker that settles parcels at the target. For proofs, a writer has the right to use the
+/// channel of parcels, and a ghost count of the documents that it settled. If the run has a progress board, a writer
+/// also has a seat (an access token to the progress board). A writer also has the number of parcels that it settled,
+/// and the reason why it stopped.
 #[derive(Drop)]
 pub struct Writer<S: SourceBrand, L: Ledger> {
     pub parcels: ParcelPass<S>,
@@ -107,10 +107,10 @@ impl<F: WriteFilter, S: SourceBrand, T: TargetBrand<F>, L: Ledger, G: Gate, R: W
         }
     }
 
-    /// Settles a parcel and records the low water at the target. The writer stops if the gate stops the writer or a
-    /// call fails. If the run has a progress board, the call adds the documents to the writer's read count on the board
-    /// before it settles the documents. The call adds the settled documents to the writer's settled count on the board
-    /// before it calls the gate (the function that observes and may stop workers).
+    /// Settles a parcel and records the low water at the target. The writer stops if a call fails, or if the gate (the
+    /// callback that observes and may stop workers) returns `Stop`. If the run has a progress board, the call adds the
+    /// documents to the writer's read count on the board before it settles the documents. The call adds the settled
+    /// documents to the writer's settled count on the board before it calls the gate.
     fn settle_and_record(
         &self,
         share: &mut Share<L>,

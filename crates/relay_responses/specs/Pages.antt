@@ -32,14 +32,14 @@ rows_in j = option_and_then (each_item row_in) (items_at (codes "results") j)
 
 -- ---- rows of one document
 
--- A document's known leaves `revs`, followed by those leaves of a second list that are not in `revs`. Each new leaf is
--- added once, in the order of the second list.
+-- A document's known leaves `revs`, followed by those leaves of a second list that are not in `revs`. The leaves that
+-- are added keep their order, and a leaf that the second list repeats is added once.
 abbrev pub add_revs : List Text → List Text → List Text
 add_revs revs [] = revs
 add_revs revs (r ∷ rs) = add_revs (if list_any (bytes_eq r) revs then revs else revs ++ r ∷ []) rs
 
--- The given documents, with the leaves of a row added to the document with the row's id. If no document has this id, a
--- new document with the row's id is added at the end.
+-- The given documents, with the leaves of a row added to the document with the row's id. If no document has the row's
+-- id, a document with the id and leaves of the row is added at the end.
 abbrev pub add_row : List DocView → DocView → List DocView
 add_row [] row = (row.0, add_revs [] row.1) ∷ []
 add_row (d ∷ ds) row = if bytes_eq row.0 d.0 then (d.0, add_revs d.1 row.1) ∷ ds else d ∷ add_row ds row

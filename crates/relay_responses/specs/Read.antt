@@ -56,7 +56,7 @@ abbrev pub each_item : {A : Type 0} → (Json → Option A) → Items → Option
 each_item reads no_items = Some []
 each_item reads (item j js) = with_first (reads j) (each_item reads js)
 
--- The results of the function `reads` for the items of a list. An item without a result is skipped.
+-- The results of the function `reads` for the items of a list. An item for which `reads` returns `None` is skipped.
 abbrev pub some_items : {A : Type 0} → (Json → Option A) → Items → List A
 some_items reads no_items = []
 some_items reads (item j js) = option_map_or (λ x. x ∷ some_items reads js) (reads j) (some_items reads js)

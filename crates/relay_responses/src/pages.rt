@@ -166,7 +166,7 @@ fn merged(alloc: Global, rows: &[DocLeaves]) -> Result<Vec<DocLeaves>, AllocErro
 }
 
 /// Returns the number of changed documents after a page, or `Some(None)` if the member `pending` is missing or null.
-/// The outer option is `None` if the member `pending` exists, but is neither a number nor null.
+/// Returns `None` if the member `pending` exists, but is neither a number nor null.
 fn pending_of(alloc: Global, value: &Value<'_>) -> Result<Option<Option<String>>, AllocError>
     ensures { IfOk result (λ o. option_map (option_map string_bytes) o
         ≡ pending_of (get (codes "pending") (value_view value.now))) }

@@ -53,7 +53,8 @@ pub enum TargetFault {
     /// The base of a new session is not an earlier session of the same replication.
     #[error("no such base session")]
     NoSuchBase,
-    /// The start exceeds the recorded sequence of the base session. If there is no base session, the start exceeds 0.
+    /// The start of a new session exceeds the recorded sequence of the earlier session that the new session continues
+    /// (its base). A new session without a base must start at 0.
     #[error("the start is above {recorded}, which its base has recorded")]
     StartAboveBase {
         recorded: u64,
@@ -144,7 +145,7 @@ pub struct Report {
     pub start: u64,
     /// The source's sequence up to which every window of the session is done.
     pub recorded: u64,
-    /// The counts of the session.
+    /// The session's counts of checked leaves, requested revisions, and read, accepted and rejected documents.
     pub counts: Counts,
 }
 

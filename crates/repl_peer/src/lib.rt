@@ -1,6 +1,7 @@
 //! A replication peer: a database with incoming sessions, local writes and logs. A lock usually protects the peer.
 //!
-//! The rules are in docs/PROFILE.md, "Sessions of a peer", "Settling" and "Replication ids and logs".
+//! The specification of a peer's sessions and logs is in docs/PROFILE.md, "Sessions of a peer", "Settling" and
+//! "Replication ids and logs".
 #![tactic(auto)]
 
 mod fault;

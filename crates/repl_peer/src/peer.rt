@@ -142,8 +142,8 @@ impl<F: WriteFilter> Peer<F> {
         &self.db
     }
 
-    /// Has no effect at run time. The contract of the call states the invariants of the peer and of the peer's
-    /// database, so that proofs can use these invariants.
+    /// States in its contract the invariants of the peer and of the peer's database, for use in proofs. A call of `law`
+    /// has no effect at run time.
     pub fn law(&self)
         ensures peer { Lawful (F.refuses self.now.0) self.now.1 }
         ensures database { LawfulDatabase self.now.1.db }
@@ -330,9 +330,9 @@ impl<F: WriteFilter> Peer<F> {
         self.append_prepared(id, ReadyWindow::new(window))
     }
 
-    /// Does the same as `append` for a prepared window. A prepared window may already have a copy of the window whose
-    /// rows have no leaves. Once a prepared window is done, the session stores only the copy whose rows have no leaves,
-    /// unless the allocation for this copy fails.
+    /// Does the same as `append` for a prepared window. A prepared window may have a copy of its rows without the
+    /// leaves, which was built in advance. When a prepared window is done, the session stores only the rows without
+    /// leaves, unless their allocation fails.
     pub fn append_prepared(&mut self, id: SessionId, ready: ReadyWindow) -> Result<(), TargetFault>
         ensures answer { GivesUnlessMemory result (append_answer self.old.1 id ready) }
         ensures filter { self.new.0 ≡ self.old.0 }
@@ -340,8 +340,8 @@ impl<F: WriteFilter> Peer<F> {
         ensures err { OnErr result (self.new.1 ≡ self.old.1) }
         ensures law { Lawful (F.refuses self.new.0) self.new.1 }
     {
-        // The code uses only the contract of `hi`, and ignores the number that `hi` returns. The contract of `hi`
-        // states that the window satisfies the invariant of windows.
+        // The call of `hi` is only needed for its contract, which states that the window satisfies the invariant of
+        // windows.
         let _hi = ready.window().hi();
         self.sessions.append(id, ready)
     }
@@ -360,10 +360,11 @@ impl<F: WriteFilter> Peer<F> {
     /// - `ForeignParcel`: the session has no window with the parcel's bounds, or a document has no row in that window.
     /// - `AlreadyDone`: the window is already done.
     /// - `CountFull`: a count of the session would exceed 9,007,199,254,740,991.
-    /// - `Stopped`: a document could not get a sequence, or an allocation failed. The first `settled` documents of the
-    ///   parcel are settled, and the error's field `rest` has the remaining documents.
+    /// - `Stopped`: a document could not get a sequence, or an allocation failed. When `settle` stops, the parcel's
+    ///   first `settled` documents are settled, and the field `rest` of `Stopped` has the remaining documents.
     /// - `Uncovered`: the target does not cover a leaf of the window's rows, because the leaf is neither in the
-    ///   document's tree nor in a session's ledger. The error names the first such leaf. All documents are settled.
+    ///   document's tree nor in a session's ledger. The error `Uncovered` names the first leaf that the target does not
+    ///   cover. All documents are settled.
     pub fn settle(&mut self, id: SessionId, parcel: Parcel) -> Result<Settled, TargetFault>
         ensures settles { SettleGives (F.refuses self.old.0) self.old.1 id parcel result self.new.1 }
         ensures filter { self.new.0 ≡ self.old.0 }

@@ -4,7 +4,7 @@ use Rattle.std.specs.Prelude.{ℕ, List, [], Bool, true, false, codes}
 use Rattle.response_output.specs.declared.forms.Form.{Form}
 use Rattle.response_output.specs.declared.forms.Form.TheVariants.{Loads, Asked, Diffs, Docs, Bodies}
 
--- The text with which a request body of the given form begins.
+-- The text with which a request body begins, depending on the output format.
 abbrev pub opening : Form → List ℕ
 opening Loads = []
 opening Asked = codes "{\"docs\":["
@@ -28,7 +28,7 @@ ends Diffs = []
 ends Docs = codes "}\n"
 ends Bodies = []
 
--- The text with which a request body of the given form ends.
+-- The text with which a request body ends, depending on the output format.
 abbrev pub closing : Form → List ℕ
 closing Loads = []
 closing Asked = codes "]}\n"
@@ -52,8 +52,8 @@ before_rev Diffs = codes ":["
 before_rev Docs = codes ",\"rev\":"
 before_rev Bodies = codes ",\"rev\":"
 
--- Whether a request body of the given form has one list with all revisions of a document. If a request body with lists
--- of revisions is full, the formatter closes the body before the next document, and not after a revision.
+-- Whether a request body in the output format groups all revisions of a document in one list. If request bodies have
+-- such lists, the formatter closes a full body only before the next document, never within a document's list.
 abbrev pub has_lists : Form → Bool
 has_lists Loads = false
 has_lists Asked = false

@@ -21,8 +21,8 @@ use Rattle.response_output.specs.declared.run.AnswerFault.TheVariants.{Refused, 
 
 -- ---- begun items
 
--- The text `part` is the beginning of the next item in the output. If `part` is not empty, the parser is in a document
--- whose beginning is long, and `part` ends with the output for this beginning.
+-- The text `part` is the beginning of the next item in the output. If `part` is not empty, the parser is in a long
+-- document, and `part` ends with the text that was written for the document's beginning.
 abbrev pub IsBegun : State → Words → List ℕ → Type 0
 IsBegun s w part = (part ≡ []) ⊎ ((written : List ℕ) × HasWritten s written × (part ≡ before w ++ written))
 
@@ -33,9 +33,9 @@ pub record Fed (s : State) (w : Words) (bytes : List ℕ) (s' : State) (w' : Wor
   pub words : w' ≡ words_behind w (pieces s bytes)
   pub written : Appends held held' (texts w (pieces s bytes) ++ part)
 
--- If the error is `Read` or `Memory`, the text `missing`, which was not written, is empty: only a failed write leaves
--- an item incomplete. The error `Cut` (of output in pieces) does not occur, because the output of a conversion is not
--- produced in pieces.
+-- The text `missing` is the part of an item's output that was not written. After the error `Read` or `Memory`,
+-- `missing` is empty, because only a failed write leaves an item incomplete. The error `Cut` (of output in pieces) does
+-- not occur, because the output of a conversion is not produced in pieces.
 abbrev pub IsWhole : ScriptFault → List ℕ → Type 0
 IsWhole Read missing = missing ≡ []
 IsWhole Write missing = ⊤
@@ -50,8 +50,8 @@ pub data WritesInPart (fault : ScriptFault) (made : List ℕ) (held held' : Opti
 
 -- An error occurred at the end of a document, after the text `front` had been written for the beginning of the
 -- document. The error is `LateMember` if the document's complete text does not begin with `front`. If the document's
--- complete text begins with `front`, a device or an allocation failed, and the rest of this text was not written
--- completely. The parser has the state s at the document's end.
+-- complete text begins with `front`, the error is `Device`: the reader, the writer or an allocation failed. After the
+-- error `Device`, the rest of the text was not written completely. The parser has the state s at the document's end.
 abbrev pub RestBreaks : AnswerFault → State → Words → List ℕ → Option (List ℕ) → Option (List ℕ) → Type 0
 RestBreaks (Refused why at) s w front held held' = ⊥
 RestBreaks (LateMember at) s w front held held' =
@@ -59,10 +59,11 @@ RestBreaks (LateMember at) s w front held held' =
 RestBreaks (Device fault) s w front held held' =
     (starts_with nat_eq s.text front ≡ true) × WritesInPart fault (rest_text w s.text (length front)) held held'
 
--- A device or an allocation failed after `before`, a prefix of the given bytes. The output for `before` consists of the
--- texts of the items in `before`, and the beginning `last` of the next item. The output for `before` consists of the
--- texts `part`, `text` and `missing`. The text `part` was written before the given bytes were read, `text` was written
--- later, and `missing` was not written. If no write failed, the text `missing` is empty.
+-- The reader, the writer or an allocation failed after the parser had read `before`, a prefix of the list `bytes`. The
+-- output for the prefix `before` is the output of its complete items, and then `last`, the beginning of the next item's
+-- output. The texts `part`, `text` and `missing`, in this order, are the complete output for the prefix `before`. The
+-- text `part` was written before the parser read `bytes`, `text` was written later, and `missing` was not written. If
+-- no write failed, the text `missing` is empty.
 pub record Begins (fault : ScriptFault) (s : State) (w : Words) (part bytes : List ℕ) (held held' : Option (List ℕ)) : Type 0 where
   pub before : List ℕ
   pub behind : List ℕ
@@ -75,10 +76,11 @@ pub record Begins (fault : ScriptFault) (s : State) (w : Words) (part bytes : Li
   pub written : Appends held held' text
   pub complete : IsWhole fault missing
 
--- The given bytes begin with `front` and the byte `last`, which ends a long document. The text `begun` was written for
--- the beginning of the long document, but the document's complete text does not begin with `begun` (`IsLate`). The
--- items in `front` were written, and the text `begun` was written after the items. The text `part` was written before
--- the given bytes were read. At the end of the long document, the parser has read `at` bytes.
+-- The list `bytes` begins with the list `front`, followed by the byte `last` that ends a long document. The text
+-- `begun` was written for the beginning of a long document, although the document's complete text does not begin with
+-- `begun` (`IsLate`). The items in `front` were written, and the text `begun` was written after the items. The text
+-- `part` was written before the parser read `bytes`. The number `at` counts the bytes that the parser has read up to
+-- the end of the long document, including its last byte.
 pub record IsLateAt (at : ℕ) (s : State) (w : Words) (part bytes : List ℕ) (held held' : Option (List ℕ)) : Type 0 where
   pub front : List ℕ
   pub last : ℕ
@@ -100,18 +102,18 @@ Breaks (Device fault) s w part bytes held held' = Begins fault s w part bytes he
 -- ---- the stored parser
 
 -- The program's parser has the state r, and a parser that stores each byte would have the state s. The text `part`, the
--- beginning of the next item, was written already. The program's parser does not store all bytes of a long document. If
--- `part` is not empty and the program's parser has not rejected a byte, `front` is the output for the first `at` bytes
--- of the text that the program's parser has stored for the current document.
+-- beginning of the next item, was written already. The program's parser does not store all bytes of a long document. In
+-- a long document whose beginning was written, `front` is the output for the first `at` bytes that the program's parser
+-- has stored for the document. After the program's parser has rejected a byte, `front` and `at` may have any values.
 pub data Tracks (s r : State) (front : List ℕ) (at : ℕ) (w : Words) (part : List ℕ) : Type 0 where
   tracks_whole : Like s r → front ≡ [] → part ≡ [] → Tracks s r front at w part
   tracks_long : (cut : LongCut) (name : Name) → Mirrors cut name s r → front ≡ cut.front → at ≡ length cut.stored → (length front == 0) ≡ false
       → part ≡ before w ++ cut.written → Tracks s r front at w part
   tracks_stuck : (cut : LongCut) → Rejected cut s r → part ≡ before w ++ cut.written → Tracks s r front at w part
 
--- The parser read the list `bytes`, and the items that end in `bytes` were written. Before the parser read `bytes`, the
--- beginning `part` of an unfinished item had already been written. After the parser has read `bytes`, the beginning
--- `part'` of the item that is unfinished after `bytes` (perhaps still the same item) has already been written.
+-- The parser read the list `bytes`, and each item whose last byte is in `bytes` was written completely. Before the
+-- parser read `bytes`, `part` was the written beginning of an item that was not yet complete. After the parser has read
+-- `bytes`, `part'` is the written beginning of the next item, which is not yet complete.
 pub record Feeds (s : State) (w : Words) (part bytes : List ℕ) (r' : State) (front' : List ℕ) (at' : ℕ) (w' : Words) (held held' : Option (List ℕ)) : Type 0 where
   pub part' : List ℕ
   pub tracks : Tracks (after s bytes) r' front' at' w' part'
@@ -143,8 +145,9 @@ EndsAnswers s w held held' (Err (Refused why at)) =
 EndsAnswers s w held held' (Err (LateMember at)) = ⊥
 EndsAnswers s w held held' (Err (Device fault)) = EndsInPart fault (last_text w) held held' × (end_of s.place ≡ Ok tt)
 
--- What a conversion does at the end of the input. If the last line of a script's output has no line end, the conversion
--- first adds a line end. The text `part`, the beginning of an item, was written before the conversion reached the
+-- What a conversion of CouchDB's responses or of a script's output writes when the parser reaches the end of the input,
+-- and the conversion's result. If the input is a script's output without a line end after the last line, a line end is
+-- first added to the input. The text `part`, the beginning of an item, was written before the conversion reached the
 -- input's end.
 abbrev pub Finishes : State → Words → List ℕ → Option (List ℕ) → Option (List ℕ) → Result ℕ AnswerFault → Type 0
 Finishes s w part held held' (Ok passed) =
@@ -161,14 +164,16 @@ Finishes s w part held held' (Err (Device fault)) =
 
 -- ---- everything from a reader
 
--- The input of a conversion consists of all remaining bytes of the reader, and of a line end if the last line of a
--- script's output has none. No byte of the input is rejected.
+-- The list `read`, the input of a conversion, has all remaining bytes of the reader. If the reader's bytes are a
+-- script's output without a line end after the last line, `read` ends with an added line end. The parser does not
+-- reject a byte of `read`.
 abbrev pub IsAll : Wanted → Option (List ℕ) → List ℕ → Type 0
 IsAll wanted left read =
     (input : List ℕ) × Gives left input × (read ≡ whole (start wanted) input) × (is_refused (after (start wanted) input).place ≡ false)
 
--- The input of a conversion consists of all remaining bytes of the reader, and of a line end if the last line of a
--- script's output has none. Bytes of the input may be rejected.
+-- The list `read`, the input of a conversion, has all remaining bytes of the reader. If the reader's bytes are a
+-- script's output without a line end after the last line, `read` ends with an added line end. Unlike `IsAll`, the
+-- definition `IsLeft` allows that the parser rejects a byte of `read`.
 abbrev pub IsLeft : Wanted → Option (List ℕ) → List ℕ → Type 0
 IsLeft wanted left read = (input : List ℕ) × Gives left input × (read ≡ whole (start wanted) input)
 
@@ -178,8 +183,8 @@ IsFront wanted left read =
     (rest : List ℕ) × Gives left (read ++ rest) × (is_refused (after (start wanted) read).place ≡ true)
 
 -- The input consists of complete responses, `passed` documents were skipped, and the items in the input are written.
--- The reader's remaining bytes are `left`. The writer had accepted the bytes `held` before the conversion, and the
--- bytes `held'` after.
+-- The reader's remaining bytes are `left`. The writer had accepted the bytes `held` before the input was converted, and
+-- has accepted the bytes `held'` after the conversion of the input.
 abbrev pub Answered : Wanted → Words → Option (List ℕ) → Option (List ℕ) → Option (List ℕ) → ℕ → Type 0
 Answered wanted w left held held' passed =
     (read : List ℕ) × IsAll wanted left read × Appends held held' (all_text w (pieces (start wanted) read))
@@ -208,9 +213,10 @@ abbrev pub Converts : Result ℕ AnswerFault → Wanted → Words → Option (Li
 Converts (Ok passed) wanted w left held held' = Answered wanted w left held held' passed
 Converts (Err fault) wanted w left held held' = Stopped wanted w left held held' fault
 
--- What a conversion guarantees if its input consists of responses with the given items. The conversion does not reject
--- the input. If the conversion succeeds, it has written all items. After the error `LateMember`, the first items are
--- written, and then the text `begun`, which belongs to a part of the next item.
+-- What a conversion guarantees if its input consists of CouchDB's responses or a script's output, and has exactly the
+-- items in the list `all`. The conversion of valid responses, or of a script's output, never fails with the error
+-- `Refused`. If the conversion succeeds, it has written all items. After the error `LateMember`, the output has the
+-- items of a prefix of `all`, and then `begun`, a text for a part of the next item.
 abbrev pub ReadsAnswers : Words → List Piece → Option (List ℕ) → Option (List ℕ) → Result ℕ AnswerFault → Type 0
 ReadsAnswers w all held held' (Ok passed) = Appends held held' (all_text w all)
 ReadsAnswers w all held held' (Err (Refused why at)) = ⊥

@@ -48,8 +48,8 @@ abbrev pub document_text : Words → List ℕ → List ℕ
 document_text w text = before w ++ (text ++ behind w)
 
 -- The text that is written for a part of a document: the text `front` without its first `told` bytes, which were
--- written earlier, and then the given bytes. If `told` is 0, the part's text begins with the text that the formatter
--- writes before a document.
+-- written earlier, and then the given bytes. If `told` is 0, the value of `part_text` begins with the text that the
+-- formatter writes before a document.
 abbrev pub part_text : Words → List ℕ → ℕ → List ℕ → List ℕ
 part_text w front told bytes = cond (told == 0) (before w) [] ++ (drop told front ++ bytes)
 
@@ -61,13 +61,13 @@ rest_text w text told = drop told text ++ behind w
 abbrev pub with_document : Words → List ℕ → Words
 with_document w text = counted_up (id_kept w (id_of text))
 
--- Whether the formatter's request body is full, and the body's form has one list with all revisions of each document
--- (`has_lists`).
+-- Whether the formatter must close the request body before the next document, because the body is full and has lists of
+-- revisions (`has_lists`).
 abbrev pub is_over : Words → Bool
 is_over w = has_lists w.form && (nat_lt 0 w.count && w.count == w.size)
 
--- The text that closes the request body before the next document. The text is empty unless the request body is full,
--- and its form has one list with all revisions of each document.
+-- The text that closes the request body before the next document, or the empty text if the formatter need not close the
+-- body (`is_over`).
 abbrev pub over_text : Words → List ℕ
 over_text w = cond (is_over w) (closing w.form) []
 
@@ -82,8 +82,7 @@ first_rev_text w text =
 abbrev pub with_first_rev : Words → Words
 with_first_rev w = record (counted_up (over w)) { listed = true }
 
--- Whether the request body has one list with all revisions of the current document, and this list already has a
--- revision.
+-- Whether the formatter adds the next revision to a list that already has another revision of the same document.
 abbrev pub is_further : Words → Bool
 is_further w = has_lists w.form && w.listed
 

@@ -2,7 +2,8 @@
 ghost use Rattle.std.specs.Prelude.{◌≡◌};
 ghost use Rattle.response_output.specs.Forms.{opening as opening_of, separator as separator_of, ends as ends_of, closing as closing_of, empty as empty_of, before_rev as before_rev_of, has_lists as has_lists_of};
 
-/// The format of the output.
+/// The output format of a conversion of CouchDB's responses: `load` or `doc` lines of a script, or request bodies for
+/// CouchDB.
 #[derive(Clone, Copy, Debug, PartialEq, Eq)]
 pub enum Form {
     /// `load` lines of a script, one for each document.
@@ -40,7 +41,7 @@ pub(crate) fn separator(form: Form) -> &'static [u8]
     }
 }
 
-/// Returns the text after each item of the output.
+/// Returns the text with which each item ends in the output format `form`.
 pub(crate) fn ends(form: Form) -> &'static [u8]
     ensures { result.now ≡ ends_of form }
 {

@@ -101,7 +101,7 @@ fn tell<W: ScriptWrite>(
     }
 }
 
-/// Writes the rest of the long document that the last byte of the response completed.
+/// Writes the rest of a long document after the parser has read the document's last byte.
 fn tell_rest<W: ScriptWrite>(
     reading: &Reading,
     front: &mut Front,
@@ -135,7 +135,8 @@ fn tell_rest<W: ScriptWrite>(
 }
 
 /// Writes the front (the output for the beginning of a long document) without its first `told` bytes, which were
-/// written before. The call then writes a run of bytes that the parser did not store.
+/// written before. After the front, `tell_run` writes the list `run`, which has bytes of the document that the parser
+/// did not store.
 fn tell_run<W: ScriptWrite>(
     front: &Front,
     told: usize,
@@ -174,7 +175,7 @@ fn first_part(bytes: &[u8]) -> &[u8]
     }
 }
 
-/// Whether the last byte completed a document whose beginning (the front) has already been written.
+/// Whether the byte that the parser read last ends a long document, whose beginning has already been written.
 fn ends_front(reading: &Reading, front: &Front) -> bool
     ensures found { result ≡ true → (state_of reading.now).found ≡ Document }
     ensures some { result ≡ true → (length (front_of front.now) == 0) ≡ false }
@@ -222,8 +223,8 @@ fn feed_part<W: ScriptWrite>(
 }
 
 /// Writes a run (consecutive bytes of a string in a long document) without storing the bytes of the run in the parser.
-/// If the given bytes do not begin with a run, the call lets the parser read some of the given bytes. Returns the
-/// number of bytes that were read.
+/// If `bytes` does not begin with bytes that can be written in this way, the parser reads a prefix of `bytes`. Returns
+/// the number of bytes that were read.
 fn feed_some<W: ScriptWrite>(
     reading: &mut Reading,
     front: &mut Front,
@@ -410,13 +411,13 @@ fn run_chunks<R: ScriptRead, W: ScriptWrite>(
 ///
 /// # Errors
 ///
-/// - `Refused`: the input is not a response. All items before the rejected byte have been written. If the rejected byte
-///   is in a long document, the beginning of this document may also have been written.
-/// - `LateMember`: a long document has ended in which a member `_id`, `_rev`, `_revisions` or `_deleted` follows an
-///   attachment. All items before this document, and the beginning of this document, have been written.
-/// - `Device`: the reader, the writer or an allocation failed. The fault in `Device` is `Read` if the reader failed in
-///   this call, or after 4,294,967,295 reads of at most 65,536 bytes. The fault in `Device` is `Write` if the writer
-///   failed in this call, and `Memory` if an allocation failed.
+/// - `Refused`: the input is not a response. All items before the rejected byte have been written. If the parser
+///   rejects a byte within a long document, the output may also have the long document's beginning.
+/// - `LateMember`: in a long document, a member `_id`, `_rev`, `_revisions` or `_deleted` follows an attachment. All
+///   items before the long document, and the beginning of the long document, have been written.
+/// - `Device`: the reader, the writer or an allocation failed. The fault in `Device` is `Read` if the reader failed
+///   while `run_answers` ran, or after 4,294,967,295 reads. Each read returns at most 65,536 bytes. The fault in
+///   `Device` is `Write` if the writer failed while `run_answers` ran, and `Memory` if an allocation failed.
 pub fn run_answers<R: ScriptRead, W: ScriptWrite>(
     alloc: Global,
     reading: &mut Reading,
@@ -426,8 +427,8 @@ pub fn run_answers<R: ScriptRead, W: ScriptWrite>(
 ) -> Result<u64, AnswerFault>
     requires begins { state_of reading.old ≡ start reading.old.wanted }
 
-    // If the input consists of CouchDB responses, the call writes the contents of the responses. If the parser skips
-    // objects without documents, the call never rejects a CouchDB response.
+    // If the input consists of CouchDB responses, `run_answers` writes the contents of the responses. If the parser may
+    // skip objects that do not have a document, `run_answers` never rejects a CouchDB response.
     ensures forms { (text : List ℕ) → (held : List Piece) → wants_documents reading.old.wanted ≡ true
         → is_strict reading.old.wanted ≡ false → R.left reader.old ≡ Some text
         → IsAnswered reading.old.wanted text held → ReadsAnswers (words_of_wording wording.old) held
@@ -455,9 +456,9 @@ pub fn run_answers<R: ScriptRead, W: ScriptWrite>(
     ensures ok { IfOk result (λ passed. Answered reading.old.wanted (words_of_wording wording.old)
         (R.left reader.old) (W.held writer.old) (W.held writer.new) passed) }
     ensures end { OnOk result (IsAtEnd (R.left reader.new)) }
-    // The clauses `ok` and `fault` describe the output for the bytes that the reader still had before the call. The
-    // clause `took` describes the output for the bytes that the reads of this call returned. If the call succeeds, the
-    // reads returned the complete input.
+    // The clauses `ok` and `fault` describe the output for all bytes that the reader had not yet returned when
+    // `run_answers` was called. The clause `took` describes the output for the bytes that `run_answers` read. If the
+    // call succeeds, the reads returned the complete input.
     ensures took { (input : List ℕ) × Appends (R.taken reader.old) (R.taken reader.new) input
         × Converts result reading.old.wanted (words_of_wording wording.old) (Some input) (W.held writer.old)
         (W.held writer.new) }

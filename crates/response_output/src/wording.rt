@@ -143,8 +143,8 @@ impl Wording {
     }
 
     /// Formats a part of a document: the text `front` without its first `told` bytes, and then `bytes`. The caller has
-    /// already written the first `told` bytes of `front`. If the caller has not yet written a byte of `front` (`told`
-    /// is 0), the formatted part begins with the text that the output format puts before each item.
+    /// already written the first `told` bytes of `front`. If `told` is 0, the formatted text begins with the text that
+    /// the output format puts before each item.
     pub fn put_part(&mut self, front: &[u8], told: usize, bytes: &[u8]) -> Result<(), AllocError>
         requires { told ≤ length front.now }
         ensures text { OnOk result (made_of self.new ≡ part_text (words_of_wording self.old) front.now told bytes.now) }
@@ -158,7 +158,7 @@ impl Wording {
         self.text.extend_from_slice(bytes)
     }
 
-    /// Formats the rest of a document. The caller has already written the first `told` bytes of the document.
+    /// Formats a document without its first `told` bytes, which the caller has already written.
     pub fn put_rest(&mut self, document: &[u8], told: usize) -> Result<(), AllocError>
         requires { told ≤ length document.now }
         ensures text { OnOk result (made_of self.new ≡ rest_text (words_of_wording self.old) document.now told) }

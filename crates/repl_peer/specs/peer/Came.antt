@@ -1,4 +1,5 @@
--- Defines the revisions that a write adds, and when a newest revision and a count describe a list of revisions.
+-- Defines the revisions of a write, and how the newest revision and the number of revisions describe a list of
+-- consecutive revisions.
 use Rattle.std.specs.Prelude.{◌≡◌, ℕ, List, ◌∷◌, length, Some}
 use Rattle.std.specs.Option.{option_to_list}
 use Rattle.rev_core.specs.Rev.{RevId}

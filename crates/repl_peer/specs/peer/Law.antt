@@ -53,8 +53,8 @@ pub record LawfulSession (refuses : Document → Bool) (p : PeerValue) (s : Sess
   pub counts : LawfulCounts s.arrivals s.ledger s.counts
   pub open counts use *
 
--- A session without a base starts at 0. The base of a session is an earlier session of the same replication, and the
--- session starts at or below the base's recorded sequence.
+-- A session that does not continue an earlier session of the same replication (its base) starts at sequence 0. A
+-- session with a base starts at or below the base's recorded sequence.
 abbrev pub IsBased : List SessionValue → SessionValue → Type 0
 IsBased earlier s =
     (s.base ≡ None) × (s.front.start ≡ 0)
@@ -73,9 +73,9 @@ pub record LawfulSessions (refuses : Document → Bool) (p : PeerValue) : Type 0
   pub based : AllBased p.sessions
   pub distinct : IsDistinct nat_eq (session_numbers p.sessions)
 
--- The invariant of peer p. The sessions of p satisfy the invariant of sessions, and each revision of p has an origin.
--- In a local write whose generations decrease by one per revision, each revision except the last has the next revision
--- as its parent in the document's tree (`StandsIn`).
+-- The invariant of peer p. The sessions of peer p satisfy the invariant of sessions. For each revision, peer p stores
+-- the local write or the session's row from which the revision came (its origin). If the generations of a local write
+-- fall by one per revision, its revisions are a chain of parents in the document's tree (`StandsIn`).
 pub record Lawful (refuses : Document → Bool) (p : PeerValue) : Type 0 where
   pub sessions : LawfulSessions refuses p
   pub origins : HasOrigins p

@@ -10,8 +10,8 @@ use Rattle.couch_base.specs.Edit.{edited, edit_document}
 use Rattle.couch_base.specs.declared.fault.BaseFault.{BaseFault}
 use Rattle.repl_peer.specs.peer.Peer.{WrittenValue, written_of}
 
--- The list of local writes after a put of document d. If the put of d changes the database, the write of d is appended
--- to the list of local writes.
+-- The list of local writes after a put of document d. If storing document d changes the database, the local write of d
+-- is appended to the list of local writes.
 abbrev pub with_load : DatabaseValue → List WrittenValue → Document → List WrittenValue
 with_load db locals d = if is_changed (put_answer db d) then locals ++ written_of d ∷ [] else locals
 

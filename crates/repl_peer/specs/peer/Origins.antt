@@ -44,10 +44,11 @@ pub record IsFed (p : PeerValue) (id : Id) (r : RevId) (session : SessionId) (se
   pub listed : IsListed by id seq
   pub arrived : IsArrival by id r
 
--- The given origin of revision r of document `id` is correct at peer p. An origin is a local write, or a session and a
--- sequence of the session's source. If the origin is a local write, peer p has the write, and the write has revision r
--- (`IsLocal`). If the origin is a session and a sequence, peer p has this session. The session of the origin has a row
--- of the document at the origin's sequence, and an arrival (a stored document) with the revision r (`IsFed`).
+-- Peer p has the local write or the session from which, according to its origin, revision r of document `id` came. An
+-- origin is a local write, or a session and a sequence of the session's source. If the origin is a local write, peer p
+-- has the write, and the write has revision r (`IsLocal`). If the origin is a session and a sequence, peer p has the
+-- session, with a row of the document at this sequence (`IsFed`). In addition, the session of the origin has an arrival
+-- (a stored document) with revision r.
 abbrev pub ComesFrom : PeerValue → Id → RevId → Origin → Type 0
 ComesFrom p id r (Local n) = IsLocal p id r n
 ComesFrom p id r (Feed session seq) = IsFed p id r session seq

@@ -29,8 +29,9 @@ coded_written =
     code_by (Id × List RevId) (coded× coded_id (coded_list coded_rev)) (λ w. (w.id, w.ancestry))
     (λ p. record { id = p.0; ancestry = p.1 }) (λ _. refl)
 
--- The reason why a document was refused, encoded as data: the three revisions of a contradiction, or a value that
--- represents the write filter.
+-- The reason why a document is in a ledger, encoded as data. If the document contradicts the tree, the code has a
+-- revision, its parent in the tree, and its parent in the document. If the write filter rejected the document, the code
+-- is the unit value.
 abbrev reason_parts : Reason → Unit {0} ⊎ (RevId × (RevId × RevId))
 reason_parts Filtered = inl tt
 reason_parts (Contradicting child known given) = inr (child, (known, given))

@@ -26,10 +26,10 @@ pub record IsRightlyRefused (refuses : Document → Bool) (p : PeerValue) (id : 
 abbrev pub IsAccounted : (Document → Bool) → PeerValue → Id → RevId → Type 0
 IsAccounted refuses p id r = (has (tree_of p.db.docs id) r ≡ true) ⊎ IsRightlyRefused refuses p id r
 
--- The guarantees of peer p. If the sequence of a session's row is at most the session's recorded sequence, each leaf of
--- the row is in its document's tree, or was rightly refused. Every revision of a peer comes from a row of a window or
--- from a local write. In each session, the number of documents read is the number of documents written plus the number
--- of documents refused.
+-- The guarantees that replication gives for the data of peer p. If the sequence of a session's row is at most the
+-- session's recorded sequence, each leaf of the row is in its document's tree, or was rightly refused. Every revision
+-- of a peer comes from a row of a window or from a local write. In each session, the number of documents read is the
+-- number of documents written plus the number of documents refused.
 pub record IsTrusted (refuses : Document → Bool) (p : PeerValue) : Type 0 where
   pub recorded : (s : SessionValue) → Among s p.sessions → (w : WindowValue) → Among w s.windows → (row : RowValue)
       → Among row w.rows → row.seq ≤ s.recorded → (leaf : RevId) → Among leaf row.leaves

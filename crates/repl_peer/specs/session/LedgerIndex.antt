@@ -10,13 +10,12 @@ use Rattle.doc_json.specs.Document.{Document}
 use Rattle.couch_base.specs.Database.{Id}
 use Rattle.repl_peer.specs.declared.session.ledger_index.LedgerIndex.{LedgerIndex}
 
--- Whether the index has revision r in the ancestry of the first ledger document with the id `id`.
+-- Whether revision r is in the ancestry of the first document with the id `id` that was added to the index.
 abbrev pub is_in_first : LedgerIndex → Id → RevId → Bool
 is_in_first index id r =
     option_map_or (λ doc. is_among r (arc_value {X = Document} doc).ancestry) (lookup (bytes_eq id) index.first.entries) false
 
--- Whether the index has revision r in the ancestry of a ledger document with the id `id` that is not the first ledger
--- document with this id.
+-- Whether revision r is in the ancestry of the second or a later document with the id `id` that was added to the index.
 abbrev pub is_in_later : LedgerIndex → Id → RevId → Bool
 is_in_later index id r = option_map_or (λ revs. is_among r revs.keys) (lookup (bytes_eq id) index.later.entries) false
 

@@ -14,8 +14,8 @@ use Rattle.repl_peer.specs.declared.session.beginning.Beginning.{Beginning}
 use Rattle.repl_peer.specs.declared.fault.TargetFault.{TargetFault}
 use Rattle.repl_peer.specs.declared.fault.TargetFault.TheVariants as faults
 
--- A peer's sessions after function `change` is applied to the found session, or the unchanged sessions if no session
--- was found.
+-- A peer's sessions after the function `change` is applied to the session in the optional argument. If the optional
+-- argument is `None`, the peer's sessions are unchanged.
 abbrev pub changed : (SessionValue → SessionValue) → List SessionValue → Option SessionValue → List SessionValue
 changed change sessions None = sessions
 changed change sessions (Some s) = with_session sessions (change s)
@@ -35,7 +35,8 @@ begin_in sessions id b =
     if holds sessions id then Err faults.SessionExists
     else goal_answer b.start b.scope.goal (base_answer sessions b.scope.rep b.scope.base b.start)
 
--- The recorded sequence of a session's base, or `NoSuchBase` if the base does not exist.
+-- The recorded sequence of the earlier session that a new session continues (its base), or `NoSuchBase` if the peer has
+-- no such session.
 abbrev pub recorded_of : Option SessionValue → Result ℕ TargetFault
 recorded_of None = Err faults.NoSuchBase
 recorded_of (Some s) = Ok s.recorded
@@ -48,7 +49,8 @@ recorded_by sessions rep (Some base) = recorded_of (base_in sessions rep base)
 abbrev pub in_ledgers : List SessionValue → Id → RevId → Bool
 in_ledgers sessions id r = list_any (λ s. in_ledger s.ledger id r) sessions
 
--- The result of a call that returns a log entry, with the entry's value instead of the entry's stored form.
+-- The result of a call, in which the value of a log entry (`EntryValue`) replaces the log entry that the program stores
+-- (`Entry`).
 abbrev pub entry_value : Result Entry TargetFault → Result EntryValue TargetFault
 entry_value (Ok e) = Ok (value_of e)
 entry_value (Err fault) = Err fault

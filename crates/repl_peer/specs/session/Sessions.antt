@@ -48,7 +48,8 @@ session_answer p id answer = found_answer answer (session_in p.sessions id)
 
 -- ---- beginning
 
--- The result of checking that a session's start is at or below the recorded sequence of the session's base.
+-- The result of checking that a new session starts at or below the recorded sequence of the earlier session that it
+-- continues (its base).
 abbrev pub start_answer : ℕ → ℕ → Result (Unit {0}) TargetFault
 start_answer start recorded = if nat_lt recorded start then Err (faults.StartAboveBase recorded) else Ok tt
 
@@ -127,7 +128,7 @@ after_append p id w = on_session p id (λ s. with_window w s (append_in w s))
 
 -- ---- recording
 
--- Session s after its low water (the sequence up to which all its windows are done) is recorded at timestamp `at`.
+-- Session s after the peer has recorded, at timestamp `at`, the session's low water as its recorded sequence.
 abbrev pub recorded_at : ℕ → SessionValue → SessionValue
 recorded_at at s = record s { recorded = low_water s.front; end_time = at }
 

@@ -69,8 +69,8 @@ IsIndexedWith d old new =
 abbrev pub settling_at : DatabaseValue → SessionValue → Settling
 settling_at db session = record { db = db; session = session }
 
--- Settling document d changes the database and the session from `before` to `after`, and does not stop at d. The new
--- revisions of d get origin o.
+-- Settling document d changes the database and the session from `before` to `after`, and does not stop at d. The tree
+-- stores the origin o for each revision that settling document d adds.
 pub record Steps (refuses : Document → Bool) (o : Origin) (d : Document) (before after : Settling) : Type 0 where
   pub goes : stops_at refuses before d ≡ false
   pub step : (w : WindowValue) → o ≡ fed w before.session.id d → after ≡ settle_one refuses w before d

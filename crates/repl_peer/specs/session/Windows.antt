@@ -4,7 +4,7 @@ use Rattle.couch_base.specs.Lists.{Among}
 use Rattle.couch_base.specs.Feed.{WindowValue}
 use Rattle.range_front.specs.Front.{FrontValue, is_done}
 
--- The value of a stored window: the window, and whether its stored form is complete.
+-- The value of a stored window: the window, and whether the session still stores the leaves of the window's rows.
 pub record StoredWindowValue : Type 0 where
   pub window : WindowValue
   pub whole : Bool

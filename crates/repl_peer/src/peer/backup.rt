@@ -21,8 +21,8 @@ pub struct Backup {
     pub(crate) outgoing: Logs,
 }
 
-// The type `Backup` has no `#[derive(Drop)]`, because each crate that owns a `Backup` would have to prove the derived
-// code (docs/DECISIONS.md, "Letting values go").
+// `Backup` implements `Drop` itself, because each crate that owns a `Backup` would have to prove the code that
+// `#[derive(Drop)]` generates (docs/DECISIONS.md, "Letting values go").
 impl Drop for Backup {
     fn drop(self) {
         let Backup {
@@ -108,8 +108,8 @@ impl<F: WriteFilter> Peer<F> {
         ensures law { Lawful (F.refuses self.new.0) self.new.1 }
     {
         let life = self.next_life(backup)?;
-        // The code uses the contract of `backup.db()`, not its result. The contract of `db` states that the backup
-        // satisfies the invariant of backups.
+        // The call of `backup.db()` is only needed for its contract, which states that the backup satisfies the
+        // invariant of backups.
         let _copy = backup.db();
         self.law();
         let alloc = *self.locals.allocator();

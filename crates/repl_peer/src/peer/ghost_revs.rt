@@ -31,7 +31,7 @@ pub(crate) enum Came<'a> {
     Whole(&'a [Rev]),
     /// The revisions of an edit: the new revision and the new revision's parent.
     Edit(Rev, Option<Rev>),
-    /// The revisions of a write that is copied from another write.
+    /// The revisions of the original write, if a write is a copy.
     Again(&'a GhostRevs),
 }
 

@@ -51,7 +51,7 @@ pub(crate) fn load(
     }
 }
 
-/// Builds the local write of a put, and reserves space for the write in the list of local writes.
+/// Builds the local write for storing the document `doc`, and reserves space for the write in the list of local writes.
 fn prepare(locals: &mut Vec<Written>, doc: &Doc) -> Result<Written, AllocError>
     ensures written { IfOk result (λ w. w ≡ written_of doc.now) }
     ensures place { OnOk result (vec_len locals.new < vec_capacity locals.new) }

@@ -59,9 +59,8 @@ impl<F: WriteFilter> Peer<F> {
         }
     }
 
-    /// Returns the arrivals (stored documents) of a session in order, if the peer has the session. The first part of
-    /// the result is a list of lists of arrivals. The second part of the result is the list of all arrivals that follow
-    /// the arrivals in the first part.
+    /// Returns the arrivals (stored documents) of a session in order, if the peer has the session. The arrivals are
+    /// returned in two parts: a list of lists of arrivals, and a list of the arrivals that follow.
     pub fn arrivals(&self, id: SessionId) -> Option<(&[Vec<Written>], &[Written])>
         ensures { option_map (λ lists. flat_map (λ list. list.items) lists.0.now ++ lists.1.now) result
             ≡ option_map (λ s. s.arrivals) (session_in self.now.1.sessions id) }

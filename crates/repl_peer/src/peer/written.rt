@@ -57,7 +57,7 @@ impl Written {
         })
     }
 
-    /// Creates the write of an edit, whose revisions are the new revision and the new revision's parent.
+    /// Creates the write of an edit. The write has the new revision, and the new revision's parent if there is one.
     pub(crate) fn edit(id: DocId, rev: Rev, parent: Option<Rev>) -> Written
         requires { (is_short rev.sig ≡ true) × FallsByOne (rev ∷ option_to_list parent) }
         ensures { result ≡ record { id = id; ancestry = rev ∷ option_to_list parent } }
@@ -98,9 +98,9 @@ impl Written {
         &self.id
     }
 
-    /// Returns the write's revision at an index, or `None` if there is no such revision. The newest revision has index
-    /// 0. The call reads a revision other than the newest from the document's tree in the database `db`, which has all
-    /// revisions of the write.
+    /// Returns the revision at index `place` in the list of the write's revisions, or `None` if the list is too short.
+    /// The newest revision has index 0. A write stores only its newest revision. The method `rev` reads any other
+    /// revision from the document's tree in the database `db`, which must have all revisions of the write.
     pub fn rev(&self, db: &Database, place: usize) -> Option<Rev>
         requires { StandsIn db.now self.now }
         ensures { result ≡ slice_get self.now.ancestry place }
@@ -110,7 +110,8 @@ impl Written {
         }
         let mut at = self.head.rev();
         for step in 0..place {
-            // The revision `at` has a parent, because the database has all revisions of the write.
+            // The tree in `db` has a parent of the revision `at`, because `at` is not the write's last revision
+            // (`StandsIn`).
             let Some(parent) = parent_in(db, &self.id, at) else {
                 unreachable!()
             };

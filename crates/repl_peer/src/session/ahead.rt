@@ -1,4 +1,4 @@
-//! Settles the prepared documents at the beginning of a parcel in bulk.
+//! Settles documents at the beginning of a parcel in bulk, if their arrivals were built in advance.
 ghost use Rattle.std.specs.Prelude.{◌≡◌, ◌<◌, ◌≤◌, ◌+◌, ◌++◌, Some, Ok, true, false, map, length, take, drop, slice_get};
 ghost use Rattle.std.specs.List.{flat_map, list_all, list_any};
 ghost use Rattle.std.specs.Str.{bytes_eq};
@@ -136,7 +136,7 @@ fn put_next(
     put_prepared_at(db, docs, i, made, origin) || db.put(&docs[i], origin).is_ok()
 }
 
-/// Stores the document at an index from its prepared tree, if possible (`Database::put_prepared`).
+/// Stores the document `docs[i]` by means of its prepared tree, if possible (`Database::put_prepared`).
 pub(crate) fn put_prepared_at(
     db: &mut Database,
     docs: &[Doc],

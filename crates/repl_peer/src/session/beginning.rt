@@ -2,15 +2,14 @@
 use repl_log::RepId;
 use rev_tree::SessionId;
 
-/// The replication, the life of the source's database, the earlier session that the session continues (base), and the
-/// sequence up to which it reads (goal). These parameters of a session never change (docs/PROFILE.md, "Sessions of a
-/// peer").
+/// The parameters of a session that never change (docs/PROFILE.md, "Sessions of a peer"). The parameters are the
+/// replication, the life of the source's database, the earlier session that the session continues (base), and the last
+/// sequence to read (goal).
 #[derive(Debug, Drop)]
 pub struct Scope {
     /// The replication.
     pub rep: RepId,
-    /// The life (a number that changes when a database is restored) that the source's database had when the source's
-    /// log was read to compute the sequence from which the session starts.
+    /// The life of the source's database at the time when the session's start was computed from the source's log.
     pub life: u64,
     /// The earlier session from whose recorded sequence the session starts, if such a session exists.
     pub base: Option<SessionId>,

@@ -4,9 +4,9 @@ use doc_json::{Doc, DocId};
 use rev_core::Rev;
 use std::alloc::Global;
 
-/// The parts of a settled parcel that are not dropped at once: the request, documents, gone revisions and unused
-/// prepared trees. The parts in a `DeferredDrops` value are dropped together with the value, after the peer has settled
-/// the parcel.
+/// The parts of a settled parcel that are not dropped at once: the request, documents, gone revisions, and unused
+/// document trees that were built in advance. The parts in a `DeferredDrops` value are dropped together with the value,
+/// after the peer has settled the parcel.
 #[derive(Drop)]
 pub struct DeferredDrops {
     asked: Option<Asked>,

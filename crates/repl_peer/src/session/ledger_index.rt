@@ -13,15 +13,15 @@ use std::sync::Arc;
 
 /// The revisions in the ancestries of refused documents, by document id.
 ///
-/// For most document ids, the ledgers have at most one document. The index shares the first document of each id with
-/// the document's ledger row, and does not copy the document's revisions. For an id with several ledger documents, the
-/// index stores the revisions of all these documents except the first in one set. A lookup of an id therefore scans
-/// only the first ledger document with the id.
+/// For most document ids, the ledgers have at most one document. The index and the ledger share the first ledger
+/// document with an id, so that the document's revisions are not copied. If several ledger documents have the same id,
+/// the index stores the revisions of the second and all later documents in one set. A lookup of a document id in the
+/// index scans the revisions of only one ledger document, the first with this id.
 #[derive(Drop)]
 pub(crate) struct LedgerIndex {
     /// For each document id, the first ledger document with this id.
     first: IndexMap<DocId, Arc<Doc>>,
-    /// For each document id, the revisions of all ledger documents with this id except the first.
+    /// For each document id with several ledger documents, the revisions of the second and all later documents.
     later: IndexMap<DocId, IndexSet<Rev>>,
 }
 
@@ -56,8 +56,7 @@ impl LedgerIndex {
         }
     }
 
-    /// Whether a revision is in the ancestry of a ledger document with the given id that is not the first ledger
-    /// document with this id.
+    /// Whether a revision is in the ancestry of the second or a later ledger document with the document id `id`.
     fn is_in_later(&self, id: &DocId, rev: Rev) -> bool
         ensures { result ≡ is_in_later self.now id.now rev }
     {
@@ -86,7 +85,8 @@ impl LedgerIndex {
         Ok(())
     }
 
-    /// Adds the revisions of a document to the set for the document's id. On error, no set changes.
+    /// Adds the revisions of a document to the set for the document's id. If an allocation fails, the sets of the index
+    /// do not change.
     fn add_later(&mut self, doc: &Doc) -> Result<(), AllocError>
         ensures first { self.new.first ≡ self.old.first }
         ensures ok { OnOk result

@@ -54,8 +54,8 @@ impl PreparedParcel {
     }
 
     /// Builds the arrivals of a parcel's documents, and the trees that these documents would have as new documents. The
-    /// origin of each tree is a session and the sequence of the document's row. The call does not change the parcel's
-    /// value.
+    /// origin of each tree is a session and the sequence of the document's row. For contracts, the prepared parcel
+    /// keeps its value when arrivals and trees are built.
     pub fn prepare(
         &mut self,
         alloc: Global,

@@ -6,16 +6,16 @@ use couch_base::Window;
 use std::alloc::Global;
 use std::marker::Model;
 
-/// A window, optionally with a prebuilt copy of the window whose rows have no leaves (`DoneWindow`). When the window is
-/// done, the session keeps only the copy of the window whose rows have no leaves, unless the allocation for this copy
-/// failed. The call `prepare` builds the copy of the window before the peer is locked.
+/// A window, optionally with a prebuilt copy (`DoneWindow`) that leaves out the leaves of the window's rows. When the
+/// window is done, the session stores only the copy without leaves, unless the allocation of the copy failed. The call
+/// `prepare` builds the copy of the window before the peer is locked.
 pub struct ReadyWindow {
     window: Window,
     done: Option<DoneWindow>,
 }
 
-// The type `ReadyWindow` has no `#[derive(Drop)]`, because each crate that owns a `ReadyWindow` would have to prove the
-// derived code (docs/DECISIONS.md, "Letting values go").
+// `ReadyWindow` implements `Drop` itself, because each crate that owns a `ReadyWindow` would have to prove the code
+// that `#[derive(Drop)]` generates (docs/DECISIONS.md, "Letting values go").
 impl Drop for ReadyWindow {
     fn drop(self) {
         let ReadyWindow { window: _, done: _ } = self;
@@ -34,15 +34,15 @@ impl Model for ReadyWindow {
 }
 
 impl ReadyWindow {
-    /// Creates a `ReadyWindow` of a window. The call does not build the copy of the window whose rows have no leaves.
+    /// Creates a `ReadyWindow` of a window. `new` does not build the copy of the window without leaves (`DoneWindow`).
     pub fn new(window: Window) -> ReadyWindow
         ensures { result ≡ window }
     {
         ReadyWindow { window, done: None }
     }
 
-    /// Builds a copy of the window whose rows have no leaves. If the allocation fails, the session builds the copy of
-    /// the window later, when the window is done.
+    /// Builds a copy of the window that leaves out the leaves of the window's rows (`DoneWindow`). If the allocation of
+    /// the `DoneWindow` fails, the session builds the `DoneWindow` later, when the window is done.
     pub fn prepare(&mut self, alloc: Global)
         ensures { self.new ≡ self.old }
     {
@@ -58,8 +58,9 @@ impl ReadyWindow {
         &self.window
     }
 
-    /// Returns a copy of the window whose rows have no leaves (`DoneWindow`). If `prepare` has built this copy, the
-    /// call removes the copy from `self`; if not, the call builds the copy. Returns `None` if the allocation fails.
+    /// Returns a copy of the window that leaves out the leaves of the window's rows (`DoneWindow`). If `prepare` has
+    /// built a `DoneWindow`, `take_done` removes it from `self`, and otherwise builds a `DoneWindow`. Returns `None` if
+    /// the allocation fails.
     pub(crate) fn take_done(&mut self, alloc: Global) -> Option<DoneWindow>
         ensures same { self.new ≡ self.old }
         ensures done { IfSome result (λ done. done ≡ self.old) }

@@ -29,9 +29,9 @@ fn row_in(rows: &[Row], id: &DocId) -> Option<usize>
     None
 }
 
-/// Returns the index of a row that has the given document id. The call first checks only the row at index `from + 1`.
-/// If the row at index `from + 1` has another id or does not exist, the call then searches all rows from index `from`,
-/// and finally the rows before `from`.
+/// Returns the index of a row that has the given document id. The search begins with the row at index `from + 1`. If
+/// the row at index `from + 1` does not match, `row_from` searches all rows from index `from`, and finally the rows
+/// before index `from`.
 ///
 /// For consecutive documents of a parcel, the rows are usually consecutive rows of the window, or the same row.
 pub(crate) fn row_from(rows: &[Row], id: &DocId, from: usize) -> Option<usize>
@@ -51,8 +51,8 @@ pub(crate) fn row_from(rows: &[Row], id: &DocId, from: usize) -> Option<usize>
     }
 }
 
-/// Returns the index and the sequence of the row that has the given document id. The caller guarantees that the row
-/// exists. Searches the rows from an index on, and then the rows before that index.
+/// Returns the index and the sequence of the row that has the given document id. The caller guarantees that a row with
+/// the document id exists. Searches the rows from an index on, and then the rows before that index.
 pub(crate) fn seq_from(rows: &[Row], id: &DocId, from: usize) -> (usize, u64)
     requires within { from ≤ length rows.now }
     requires there { list_any (λ row. bytes_eq row.id id.now) rows.now ≡ true }

@@ -122,9 +122,9 @@ impl Sessions {
         Ok(log)
     }
 
-    /// Returns the newest session of a replication that is also in the source's log, and a sequence. The sequence is
-    /// the lesser of the session's recorded sequences at the target and in the source's log. The call scans only the
-    /// sessions of the replication, until it finds the common session.
+    /// Returns the common checkpoint of a replication: its newest session that is also in the source's log, and the
+    /// sequence of the common checkpoint. The sequence is the lesser of the session's recorded sequences at the target
+    /// and in the source's log. The call scans only the sessions of the replication, until it finds the common session.
     pub(crate) fn shared_with(&self, rep: &RepId, source: &Log) -> Option<(SessionId, u64)>
         ensures { result ≡ common source.now (log_of self.now rep.now) }
     {
@@ -195,8 +195,8 @@ impl Sessions {
         Ok(())
     }
 
-    /// Returns the recorded sequence of the base, or 0 if there is no base. Returns `NoSuchBase` if the base is not a
-    /// session of the same replication.
+    /// Returns the recorded sequence of the earlier session `base`, or 0 if `base` is `None`. Returns `NoSuchBase` if
+    /// `base` is not the id of a session of the replication `rep`.
     fn recorded_of(&self, rep: &RepId, base: Option<SessionId>) -> Result<u64, TargetFault>
         ensures { result ≡ recorded_by self.now rep.now base }
     {

@@ -23,8 +23,8 @@ pub(crate) struct Checked {
 }
 
 /// Checks that a parcel's window exists, has a row for each document and is not done, and that the counts do not
-/// overflow. Returns the index of the parcel's window and the numbers to add to the counts, or the error of the first
-/// check that fails.
+/// overflow. Returns the index of the parcel's window, and the numbers of leaves and of requested revisions that
+/// settling adds to the session's counts. If a check fails, returns the error of the check that fails first.
 pub(crate) fn check(session: &Session, parcel: &Parcel) -> Result<Checked, TargetFault>
     ensures ok { IfOk result
         (λ found. Passes session.now parcel.now found.place found.leaves found.asked) }
@@ -92,7 +92,7 @@ fn has_room(session: &Session, read: u64, checked: u64, found: u64) -> bool
         && fits(session.counts.found, found)
 }
 
-/// Whether a count would stay at or below the maximum of a count if a number were added.
+/// Whether `count + more` is at most 9,007,199,254,740,991, the maximum of a session's count.
 fn fits(count: u64, more: u64) -> bool
     ensures { result ≡ nat_le (count + more) most }
 {

@@ -217,9 +217,9 @@ impl StoredWindow {
         }
     }
 
-    /// Drops the leaves of the window's rows, by replacing the rows with shortened rows (without leaves). The call
-    /// allocates the shortened rows, unless they were prepared before. If the allocation of the shortened rows fails,
-    /// the window keeps its rows with their leaves.
+    /// Drops the leaves of the window's rows, by replacing the rows with rows that have no leaves. The rows without
+    /// leaves are allocated now, unless `ReadyWindow::prepare` has already built them. If the rows without leaves
+    /// cannot be allocated, the window keeps its rows with their leaves.
     pub(crate) fn let_leaves_go(&mut self, alloc: Global)
         ensures { self.new.window ≡ self.old.window }
     {

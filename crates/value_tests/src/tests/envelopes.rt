@@ -1,5 +1,5 @@
-//! Worked examples that wrap documents in envelopes, and unwrap documents from envelopes. Some calls get only the
-//! beginning of a document or of an envelope.
+//! Worked examples that wrap documents in envelopes, and unwrap documents from envelopes. Some of the examples wrap
+//! only the beginning of a document, or unwrap only the beginning of an envelope.
 use doc_envelope::Envelope;
 use std::alloc::Global;
 use std::process::Abort;
@@ -22,8 +22,8 @@ enum Call {
 /// `false`.
 type Row = (Call, &'static str, Option<&'static str>);
 
-/// Asserts for each row of a table that the row's call returns `true` and builds the row's expected output. If a row
-/// has no expected output, the row's call must return `false`.
+/// Asserts for each row of a table that the row's call returns `true` and builds the row's expected output. If a row of
+/// the test table has no expected output, the row's call must return `false`.
 fn run(rt: &impl Abort, envelope: &mut Envelope, rows: &[Row]) {
     for (i, (call, text, wanted)) in rows.iter().enumerate() {
         let returned = match *call {
@@ -57,16 +57,15 @@ static WRAPPED: &[Row] = &[
             r#"{"_id":"a","_rev":"2-b","_revisions":{"start":2,"ids":["b","c"]},"whole":"\"x\":\"y\",\"_attachments\":{\"f\":{\"data\":\"QUJDREVGRw"#,
         ),
     ),
-    // In the row below this comment, `begin_put` returns `false`, because the rest of the document may have the member
-    // `_revisions`.
+    // For the beginning of a document without `_revisions`, `begin_put` returns `false`, because the rest of the
+    // document may have the member `_revisions`.
     (
         Call::BeginPut,
         r#"{"_id":"a","_rev":"2-b","_attachments":{"f":{"data":"QUJDREVGRw"#,
         None,
     ),
-    // In the three rows below this comment, `begin_put` returns `false`. The first input ends in a member other than
-    // `_attachments`, the second input ends outside of a string, and the third input ends shortly after a quotation
-    // mark.
+    // `begin_put` returns `false` if the beginning of a document ends in a member other than `_attachments`, outside of
+    // a string, or shortly after a quotation mark.
     (
         Call::BeginPut,
         r#"{"_id":"a","_revisions":{"start":1,"ids":["b"]},"x":{"f":{"data":"QUJDREVGRw"#,
@@ -101,8 +100,8 @@ static UNWRAPPED: &[Row] = &[
         r#"{"_id":"a","_rev":"2-b","whole":"\"x\":\"y\",\"_attachments\":{\"f\":{\"data\":\"QUJDREVGRw"#,
         Some(r#"{"_id":"a","_rev":"2-b","x":"y","_attachments":{"f":{"data":"QUJDREVGRw"#),
     ),
-    // In the three rows below this comment, `begin_take` returns `false`. The first input ends outside of a wrapped
-    // string, the second input ends in a member other than `whole`, and the third input ends shortly after an escape.
+    // `begin_take` returns `false` if the beginning of an envelope ends outside of a wrapped string, in a member other
+    // than `whole`, or shortly after an escape.
     (
         Call::BeginTake,
         r#"{"_id":"a","_rev":"2-b","whole":"\"x\":1234567890"#,

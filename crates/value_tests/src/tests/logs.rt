@@ -13,16 +13,18 @@ enum Call<'a> {
     Make,
     /// Copy a log, and append the copy to the list of logs.
     Copy(usize),
-    /// Store in a log the entry of a session that read nothing. The call's fields are the log, the session id and the
-    /// recorded sequence.
+    /// Store in a log the entry of a session that read nothing. The fields of `Put` are the log's index in the test's
+    /// list, the session id and the recorded sequence.
     Put(usize, u128, u64),
-    /// Store in a log the entry of session 1, which read one document. The call's fields are the log and a timestamp.
+    /// Store in a log the entry of session 1, which read one document. The fields of `PutOne` are the log's index in
+    /// the test's list, and a timestamp.
     PutOne(usize, u64),
     /// Store the entry of a session that read nothing, in the log of the replication from database 1 into another
-    /// database. The call's fields are the other database, the session id and the recorded sequence.
+    /// database. The fields of `PutInto` are the replication's target database, the session id and the recorded
+    /// sequence.
     PutInto(u128, u128, u64),
-    /// Copy the logs of all replications. The test keeps one copied log in its list of logs: the log of the replication
-    /// from database 1 into the database that the call names.
+    /// Copy the logs of all replications. The call `CopyInto(t)` then appends the copied log of the replication from
+    /// database 1 into database t to the test's list of logs.
     CopyInto(u128),
     /// Read whether the replication from database 1 into another database has a log.
     HasInto(u128),
@@ -122,7 +124,8 @@ impl Bench {
         }
     }
 
-    /// Stores an entry in the log of the replication from database 1 to `target`, if the entry exists.
+    /// Stores a session's entry in the log of the replication from the test's database 1 to its database `target`.
+    /// Returns `None` if `entry` is `None`.
     fn put_into(&mut self, target: u128, entry: Option<Entry>) -> Option<String> {
         match entry {
             Some(entry) => shown(self.alloc, &self.all.put(&from_one(target), entry)),
@@ -247,7 +250,8 @@ fn written(alloc: Global, id: &RepId, log: &Log) -> Option<String> {
     }
 }
 
-/// Returns the seconds of a timestamp, or the error.
+/// Creates a timestamp from a number of seconds, and formats the seconds that the timestamp returns, or the error of
+/// `Moment::new`.
 fn moment_text(alloc: Global, seconds: u64) -> Option<String> {
     match Moment::new(seconds) {
         Ok(moment) => shown(alloc, &moment.seconds()),

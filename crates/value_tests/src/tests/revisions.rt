@@ -6,7 +6,7 @@ use std::alloc::Global;
 use std::process::Abort;
 use test_support::{rev, rev_text, revs_text, shown};
 
-/// A call on revisions or digests. The test gives revisions as strings.
+/// A call of a function that handles revisions, ancestries or digests. The test gives revisions as strings.
 #[derive(Clone, Copy)]
 enum Call<'a> {
     /// Parse a revision, and read its generation and its signature.
@@ -17,17 +17,17 @@ enum Call<'a> {
     Compare(&'a str, &'a str),
     /// Create an ancestry from the newest generation and the signatures.
     Ancestry(u32, &'a [&'a str]),
-    /// Create an ancestry, and read the revisions and the head of a copy.
+    /// Create an ancestry, copy the ancestry, and read the revisions and the head of the copied ancestry.
     Copy(Parts<'a>),
-    /// Read whether the copy of an ancestry contains a revision.
+    /// Copy an ancestry, and read whether the copied ancestry contains a revision.
     Contains(Parts<'a>, &'a str),
-    /// Read the parent of a revision in the copy of an ancestry.
+    /// Copy an ancestry, and read the parent of a revision in the copied ancestry.
     Parent(Parts<'a>, &'a str),
-    /// Store a revision in compact form (`KeptRev`), and copy the `KeptRev`. The result says whether the revision's
-    /// signature is short, and has the copied revision as a string.
+    /// Store a revision in compact form (`KeptRev`), and copy the `KeptRev`. The result is `short ` or `long `,
+    /// depending on the revision's signature, followed by the copied revision as a string.
     Keep(&'a str),
-    /// Convert a revision to a `SmallRev`, and copy the `SmallRev`. Read whether the revision is stored in a heap block,
-    /// and read the string of the copy.
+    /// Convert a revision to a `SmallRev`, and copy the `SmallRev`. Read whether the `SmallRev` stores the revision in
+    /// a heap block, and format the revision in the copied `SmallRev` as a string.
     Small(&'a str),
     /// Compare two revisions that are converted to values of `SmallRev`.
     CompareSmall(&'a str, &'a str),
@@ -151,7 +151,7 @@ fn copied(alloc: Global, parts: Parts) -> Option<Ancestry> {
     ancestry(alloc, parts.start, parts.sigs)?.copy(alloc).ok()
 }
 
-/// Returns the head and the revisions of the copy of an ancestry.
+/// Copies an ancestry, and returns the head and the revisions of the copied ancestry.
 fn copy_text(alloc: Global, parts: Parts) -> Option<String> {
     let Some(copy) = copied(alloc, parts) else {
         return None;
@@ -170,7 +170,7 @@ fn head_text(alloc: Global, copy: &Ancestry) -> Option<String> {
     format!(in alloc; "{head} of {revs}").ok()
 }
 
-/// Returns whether the copy of an ancestry contains a revision.
+/// Copies an ancestry, and returns whether the copied ancestry contains a revision.
 fn contains_text(alloc: Global, parts: Parts, text: &str) -> Option<String> {
     match (copied(alloc, parts), rev(text)) {
         (Some(copy), Some(rev)) => shown(alloc, &copy.contains(rev)),
@@ -178,7 +178,7 @@ fn contains_text(alloc: Global, parts: Parts, text: &str) -> Option<String> {
     }
 }
 
-/// Returns the parent of a revision in the copy of an ancestry.
+/// Copies an ancestry, and returns the parent of a revision in the copied ancestry.
 fn parent_text(alloc: Global, parts: Parts, text: &str) -> Option<String> {
     let (Some(copy), Some(rev)) = (copied(alloc, parts), rev(text)) else {
         return None;
@@ -189,8 +189,8 @@ fn parent_text(alloc: Global, parts: Parts, text: &str) -> Option<String> {
     }
 }
 
-/// Returns a string that says whether a revision has a short signature, followed by the revision itself, read from a
-/// copy of its compact form (`KeptRev`).
+/// Copies the compact form (`KeptRev`) of a revision. Returns `short ` or `long `, depending on the revision's
+/// signature, followed by the copied revision.
 fn kept_text(alloc: Global, text: &str) -> Option<String> {
     let Some(rev) = rev(text) else {
         return None;
@@ -215,8 +215,7 @@ fn form_text(alloc: Global, rev: &Rev) -> Option<String> {
     }
 }
 
-/// Stores a revision in compact form (`KeptRev`), and returns the string of the revision that a copy of the `KeptRev`
-/// contains.
+/// Stores a revision in compact form (`KeptRev`), copies the `KeptRev`, and returns the copied revision as a string.
 fn copy_of_kept(alloc: Global, rev: &Rev) -> Option<String> {
     let Ok(kept) = KeptRev::keep(alloc, rev) else {
         return None;
@@ -242,8 +241,8 @@ fn small(alloc: Global, rev: &Rev) -> Option<SmallRev> {
     }
 }
 
-/// Returns `inline ` or `long `, which says whether a `SmallRev` stores the revision in a heap block, and the string of
-/// a copy.
+/// Converts a revision to a `SmallRev`, copies the `SmallRev`, and returns the copied revision as a string. The string
+/// begins with `long ` if a `SmallRev` stores the revision in a heap block, and otherwise with `inline `.
 fn small_text(alloc: Global, text: &str) -> Option<String> {
     let rev = rev(text)?;
     let small = small(alloc, &rev)?;

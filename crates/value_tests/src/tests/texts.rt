@@ -1,4 +1,5 @@
-//! Creates signatures and ancestries from strings, and compares results.
+//! Helper functions of the tests, which create signatures and ancestries from strings, and compare the results of calls
+//! with expected strings.
 use rev_core::{Ancestry, Sig};
 use std::alloc::Global;
 use std::process::Abort;

@@ -13,15 +13,15 @@ enum Call<'a> {
     Read(&'a [u8]),
     /// A JSON text of arrays that are nested to a given depth.
     Nested(usize),
-    /// A JSON text of an object with a given number of names in falling order. Each name of the object occurs twice,
-    /// and the second value of a name is the name's number.
+    /// A JSON text of an object with a given number of names in falling order. Each name is a number, and occurs twice:
+    /// first with the value null, and later with the number as the value.
     Falling(usize),
 }
 
 /// The texts that the test reads, each with the expected compact form or the expected error.
 type Rows = &'static [(Call<'static>, &'static str)];
 
-/// Reads all texts with one reader, and asserts each result.
+/// Reads the texts of a test table with one reader, and asserts that each text gives the expected result.
 fn run(rt: &impl Abort, alloc: Global, calls: &[(Call, &str)]) {
     let mut reader = ValueReader::new(alloc);
     for (i, (call, wanted)) in calls.iter().enumerate() {
@@ -76,7 +76,7 @@ fn value_text(alloc: Global, value: &LineValue<'_>) -> Option<String> {
     }
 }
 
-/// Copies a value with owned strings.
+/// Copies a value. The copy owns its strings.
 #[cycle(owned)]
 fn owned(alloc: Global, value: &LineValue<'_>) -> Option<Value> {
     match value {
@@ -157,7 +157,7 @@ fn append_null(alloc: Global, text: &mut String, number: usize) -> Option<()> {
     }
 }
 
-/// Appends a member whose name and value are a given number, and appends a given text after the member.
+/// Appends a JSON member with the value `number`, whose name is `number` with leading zeros, and then appends `end`.
 fn append_number(alloc: Global, text: &mut String, number: usize, end: &str) -> Option<()> {
     match format!(in alloc; "\"{number:05}\":{number}{end}") {
         Ok(member) => text.push_str(member.as_str()).ok(),
@@ -230,7 +230,7 @@ static NUMBERS: Rows = &[
     (Call::Read(b"1."), "NotJson"),
 ];
 
-/// Test rows with invalid texts, followed by a valid text.
+/// Invalid texts, each with the expected error, followed by one valid text.
 static REFUSED: Rows = &[
     (Call::Read(b""), "NotJson"),
     (Call::Read(b" \n"), "NotJson"),
