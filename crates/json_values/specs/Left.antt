@@ -1,5 +1,5 @@
--- Defines the state of a reader of a JSON text. The state is the unread text or tokens, and flags that say which of the
--- read strings are known to need no escapes.
+-- Defines the state of a reader of a JSON text. The state has two parts: the text or the tokens that are not yet read,
+-- and flags. A flag says whether strings that were read are known to need no escapes.
 use Rattle.std.specs.Prelude.{ℕ, List, refl}
 use Rattle.std.specs.Coded.{Coded, code_by, coded×, coded_list, coded_ℕ}
 use Rattle.json.specs.Token.{Token, tokens_code}
