@@ -13,8 +13,8 @@ pub record IsMadeOf (d : Document) (m : PreparedTree) : Type 0 where
   pub tree : m.tree ≡ merged no_revisions d.ancestry (content_of d.deleted d.body) (Feed m.session m.seq)
   pub document : IsDocumentTree m.tree
 
--- Each prepared tree in the list `all` belongs to the document at the same index of the list `docs`, if this document
--- exists (`IsMadeOf`).
+-- If the list `docs` has a document at an index, a prepared tree at the same index of the list `all` is this document's
+-- tree (`IsMadeOf`).
 abbrev pub AreMade : List Document → List (Option PreparedTree) → Type 0
 AreMade docs all =
     (i : ℕ) (d : Document) (m : PreparedTree) → slice_get docs i ≡ Some d → slice_get all i ≡ Some (Some m) → IsMadeOf d m

@@ -209,7 +209,7 @@ RunsWords words ended input text (end.NotRun why) = (input ≡ []) × (text ≡ 
 RunsWords words ended input text (end.Ran ran) =
     (options : Options) × Says words options × RunsOptions options ended input text ran
 
--- A given statement p is true if the program made a run, and the run ended with an exit status.
+-- The statement p is true if the program made a run, and the run ended with an exit status.
 abbrev pub IfRan : Ended → Type 0 → Type 0
 IfRan (end.NotRun why) p = Unit {0}
 IfRan (end.Ran (Ok status)) p = p

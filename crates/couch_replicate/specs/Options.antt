@@ -54,9 +54,9 @@ Says words o = AreOptions (λ id. first_of id (matches_of options words)) (λ id
 
 -- ---- arguments without settings
 
--- The reason why the program cannot compute its settings from the texts of the options. If the reason is `NoNumber`,
--- the texts of the options do not describe any settings (`AreSettings`). If the reason is `File`, the command line has
--- a positional argument. If the reason is `Memory`, an allocation failed.
+-- The reason why the program cannot compute its settings from the texts of the options. If the reason is `NoNumber`, no
+-- settings fit the texts of the options (`AreSettings`). If the reason is `File`, the command line has a positional
+-- argument. If the reason is `Memory`, an allocation failed.
 abbrev pub SetNothing : (List ℕ → Option (List ℕ)) → (List ℕ → Option (List ℕ)) → NoSettings → Type 0
 SetNothing text number (Words error) = ⊥
 SetNothing text number NoNumber = (s : Settings) → AreSettings text number s → ⊥
@@ -64,9 +64,8 @@ SetNothing text number File = text (codes "file") ≡ None → ⊥
 SetNothing text number Memory = Unit {0}
 
 -- The reason why the program cannot compute its options from the arguments `words`. If the reason is `Words`, `clap`
--- returned an error. If the reason is `NoNumber`, the arguments do not describe any value of the type `Options`
--- (`Says`). If the reason is `File`, the command line has a positional argument. If the reason is `Memory`, an
--- allocation failed.
+-- returned an error. If the reason is `NoNumber`, no value of the type `Options` fits the arguments (`Says`). If the
+-- reason is `File`, the command line has a positional argument. If the reason is `Memory`, an allocation failed.
 abbrev pub Refuses : List (List ℕ) → NoSettings → Type 0
 Refuses words (Words error) = HasKind (fault_of options words) error
 Refuses words NoNumber = (o : Options) → Says words o → ⊥

@@ -68,8 +68,8 @@ abbrev pub alone : Option RevId → Result (List RevId) DocFault
 alone None = Err faults.NoRev
 alone (Some r) = Ok (r ∷ [])
 
--- The ancestry that has the given signatures, and has the generation `start` for its newest revision. If `_rev` is
--- given, the newest revision must be the value of `_rev`.
+-- The ancestry that has the signatures `sigs`, and has the generation `start` for its newest revision. If the document
+-- has `_rev`, the newest revision must be the value of `_rev`.
 abbrev pub numbered_beside : Option RevId → Option ℕ → Option (List (List ℕ)) → Result (List RevId) DocFault
 numbered_beside rev start sigs = numbered_from start sigs >>= matched rev
 

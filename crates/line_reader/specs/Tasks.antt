@@ -123,8 +123,8 @@ HasPrinted {S} ended input text state =
     (lines : List (List ℕ)) × (rest : List ℕ) × AreLines input lines rest × ended lines rest text state
 
 -- If an error stopped a task, its output `text` is a prefix of the output for the input's first n lines, for a number
--- n. If the task had read the complete input (the statement `all`), `text` may also be a prefix of the output for the
--- complete input.
+-- n. If the task had read the complete input (the statement `all`), `text` may instead be a prefix of the output for
+-- the complete input.
 abbrev pub HasPrintedPart : {S : Type 0} → Kept S → Ended S → Type 0 → List ℕ → List ℕ → Type 0
 HasPrintedPart {S} kept ended all input text =
     ((lines : List (List ℕ)) × (rest back : List ℕ) × (state : S) × (input ≡ joined lines ++ rest)

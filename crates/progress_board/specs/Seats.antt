@@ -63,9 +63,9 @@ new_fault workers viewers = if are_seats workers viewers then faults.Memory else
 
 -- ---- new seats
 
--- The seat s (an access token for the table `table`) is new and has the number i. The table `table` has the counters of
--- k workers. If i is less than the number n of workers' seats, the seat with the number i belongs to worker i, and
--- otherwise to a viewer.
+-- The seat s (an access token for the table `table`) is new, and has index i in the list of the table's seats. The
+-- table `table` has the counters of k workers. If i is less than the number n of workers' seats, the seat belongs to
+-- worker i, and otherwise to a viewer.
 abbrev pub IsSeat : TableId → ℕ → ℕ → ℕ → BoardSeat → Type 0
 IsSeat table k n i s =
     (s.place.table_id ≡ table) × (s.works ≡ nat_lt i n) × (i < n → s.number ≡ i) × (s.read ≡ 0) × (s.settled ≡ 0)

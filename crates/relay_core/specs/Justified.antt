@@ -1,5 +1,5 @@
--- Defines when the relay may request a server to record a sequence in its log. The history of a run is the list of the
--- run's exchanges (a request and its response), newest exchange first.
+-- Defines when the relay may request a server to record a sequence in the server's log. The history of a run is the
+-- list of the run's exchanges (a request and its response), newest exchange first.
 use Rattle.std.specs.Prelude.{ℕ, ◌≡◌, ◌+◌, ◌-◌, ◌^◌, ◌≤◌, ◌==◌, codes, Bool, true, false, ◌&&◌, ◌||◌, not, if◌then◌else◌, List, [], ◌∷◌, ◌++◌, Option, None, Some, min, bytes_eq}
 use Rattle.std.specs.List.{list_any}
 use Rattle.relay_core.specs.declared.messages.Side.{Side}
@@ -50,7 +50,7 @@ abbrev pub log_in : ResponseView → Option LogView
 log_in (log_response log) = Some log
 log_in r = None
 
--- The log that the given server (the source or the target) returned last, up to and including an exchange. The
+-- The log that the server `side` (the source or the target) returned last, up to and including an exchange. The
 -- parameter `before` is the log that the server had last returned before the exchange.
 abbrev pub log_after : Side → RequestView → ResponseView → Option LogView → Option LogView
 log_after Source (get_log Source) r before = log_in r
@@ -106,8 +106,9 @@ pub record AreReady (h : List Exchange) (target source : LogView) (s : Text) (fa
   pub reached : Reached (seq_of (newest_common target.history source.history)) before s rejected
   pub counted : min rejected (2 ^ 64 - 1) ≤ failures
 
--- The relay has processed the pages of changes up to the sequence s, and may request a server to record s in its log.
--- The history of a written log is the new entry, followed by the history of the log that was last read.
+-- The relay has processed the pages of changes up to the sequence s. Before the relay has processed these pages, it
+-- must not request a server to record s in the server's log. The history of a written log is the new entry, followed by
+-- the history of the log that was last read.
 pub record IsReady (h : List Exchange) (side : Side) (log : LogView) (s : Text) (failures : ℕ) : Type 0 where
   pub target : LogView
   pub source : LogView
@@ -128,8 +129,8 @@ abbrev pub IsStored : List Exchange → Text → Type 0
 IsStored [] s = ⊥
 IsStored (e ∷ h) s = IsStoring e.request e.response s (IsStored h s)
 
--- The relay requests the source to record a sequence in its log only if the target has just stored its log with this
--- sequence (`IsStored`).
+-- The relay requests the source to record a sequence in the source's log only if the target has just stored its log
+-- with this sequence (`IsStored`).
 abbrev pub IsInOrder : List Exchange → Side → Text → Type 0
 IsInOrder h Target s = Unit {0}
 IsInOrder h Source s = IsStored h s

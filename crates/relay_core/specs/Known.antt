@@ -49,7 +49,7 @@ asked_of phase = option_map_or (λ n. tell (notice_view n)) (slice_get phase.not
 -- ---- what is known
 
 -- The relay has processed the pages of changes from sequence `begin` to sequence `since`. The count `failures` is at
--- least 2^64 - 1, or includes each leaf of the processed pages that the target refused and lacks.
+-- least 2^64 - 1, or includes each leaf that the target refused and lacks, among the leaves of the processed pages.
 pub record IsReachedFrom (h : List Exchange) (begin since : Text) (failures : ℕ) : Type 0 where
   pub rejected : ℕ
   pub reached : Reached begin h since rejected

@@ -8,7 +8,7 @@ use Rattle.json.specs.Print.{print}
 use Rattle.relay_core.specs.declared.messages.Counts.{Counts}
 use Rattle.relay_core.specs.Messages.{Text, EntryView, LogView, CheckpointView}
 
--- The path of the replication log, which is the same at both servers. The path ends with the MD5 of six texts, which
+-- The path of the replication log. The path is the same at both servers. The path ends with the MD5 of six texts, which
 -- are separated by line feeds.
 abbrev pub log_path : Text → Text → Text → Text → Text → Text → Text
 log_path source target filter query choice salt =

@@ -38,7 +38,7 @@ abbrev pub add_revs : List Text → List Text → List Text
 add_revs revs [] = revs
 add_revs revs (r ∷ rs) = add_revs (if list_any (bytes_eq r) revs then revs else revs ++ r ∷ []) rs
 
--- The given documents, after the leaves of a row are added to the document that has the row's id. If no document has
+-- A list of documents, after the leaves of a row are added to the document that has the row's id. If no document has
 -- the row's id, a document with the id and leaves of the row is added at the end.
 abbrev pub add_row : List DocView → DocView → List DocView
 add_row [] row = (row.0, add_revs [] row.1) ∷ []

@@ -90,9 +90,9 @@ pub data ClosesRun (plan : Plan) (fault : Option PoolFault) (complete : Bool)
 
 -- How the end of a replication by the pool changes both peers, and what the replication's workers have done before.
 -- Only calls for the run's session have changed the target from the state `given` to the state `before`. The windows of
--- the run's session are pages of the source's feed. If a worker stopped early, a call of the worker failed, or the
--- worker was at a stage at which the caller's `Gate` may stop a worker. If no worker stopped and all sent parcels were
--- received, the session has read as many documents as the fetchers counted.
+-- the run's session are pages of the source's feed. A worker stopped early only if a call of the worker failed, or if
+-- the caller's `Gate` may stop workers at the worker's stage. If no worker stopped and all sent parcels were received,
+-- the session has read as many documents as the fetchers counted.
 pub record EndsRun {F : Type 0} (refuses : F → Document → Bool) (may_fill : Type 0) (may_stop : Place → Type 0)
     (plan : Plan) (source : PeerValue) (given : F × PeerValue) (counts : List ℕ) (source' after : PeerValue)
     (outcome : Result Report PoolFault) : Type 0 where

@@ -93,7 +93,7 @@ pub record IsLateAt (at : ℕ) (s : State) (w : Words) (part bytes : List ℕ) (
   pub written : Appends held held' text
   pub at_is : at ≡ (after s (front ++ last ∷ [])).taken
 
--- The output of a conversion, if an error stops the conversion while it reads the given bytes of a response.
+-- The output of a conversion, if an error stops the conversion while it reads the bytes `bytes` of a response.
 abbrev pub Breaks : AnswerFault → State → Words → List ℕ → List ℕ → Option (List ℕ) → Option (List ℕ) → Type 0
 Breaks (Refused why at) s w part bytes held held' = ⊥
 Breaks (LateMember at) s w part bytes held held' = IsLateAt at s w part bytes held held'

@@ -48,8 +48,8 @@ abbrev pub document_text : Words → List ℕ → List ℕ
 document_text w text = before w ++ (text ++ behind w)
 
 -- The text that is written for a part of a document: the bytes of `front` that were not written earlier, and then the
--- given bytes. The first `told` bytes of `front` were written earlier. If `told` is 0, the value of `part_text` begins
--- with the text that the formatter writes before a document.
+-- bytes `bytes`. The first `told` bytes of `front` were written earlier. If `told` is 0, the value of `part_text`
+-- begins with the text that the formatter writes before a document.
 abbrev pub part_text : Words → List ℕ → ℕ → List ℕ → List ℕ
 part_text w front told bytes = cond (told == 0) (before w) [] ++ (drop told front ++ bytes)
 

@@ -17,8 +17,9 @@ use Rattle.response_parser.specs.declared.place.Found.TheVariants.{Id, Rev}
 -- ---- objects and lists
 
 -- The members of an object, up to its closing brace. The parameter `Member` is a relation between two flags n and n', a
--- member's text m, and the member's items ps. The flag n says whether a document id came before the member m. The flag
--- n' says whether a document id came before the member after m.
+-- member's text m, and the member's items ps. In a feed row, the flag n says whether the row's id precedes the member
+-- m, without a member `changes` in between. The flag n' says the same of the member after m. In all other objects, n
+-- and n' are false.
 pub data AreMembersOf (Member : Bool → Bool → List ℕ → List Piece → Type 0) : Bool → List ℕ → List Piece → Type 0 where
   last_member : {n n' : Bool} {m : List ℕ} {ps : List Piece} → Member n n' m ps → AreMembersOf Member n (m ++ 125 ∷ []) ps
   member : {n n' : Bool} {m t : List ℕ} {ps qs : List Piece} (s : List ℕ) → Member n n' m ps → Spaces s → AreMembersOf Member n' t qs

@@ -32,8 +32,8 @@ change_begun s b = cond (b == 32) (record s { place = Line Seq; text = [] }) (re
 abbrev pub is_change : State → Bool
 is_change s = wants_changes s.wanted && bytes_eq s.text (codes "change")
 
--- The parser's state after the first word of a line. If the first word of a line is `refused`, the parser adds the line
--- to the number of skipped entries.
+-- The parser's state after the first word of a line. If the first word of a line is `refused`, the parser counts the
+-- line as a skipped entry.
 abbrev pub word_passed : State → State
 word_passed s = record s { passed = cond (bytes_eq s.text (codes "refused")) (more s.passed) s.passed }
 

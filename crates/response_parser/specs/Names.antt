@@ -134,8 +134,8 @@ is_id Reason = false
 is_id Other = false
 is_id Foreign = false
 
--- Whether members of the given kind have one of two lists as their value: a document's list of revisions, or the list
--- `docs` of an outermost object.
+-- Whether a member's value is one of two lists, according to the member's kind: a document's list of revisions, or the
+-- list `docs` of an outermost object.
 abbrev pub is_inner : Name → Bool
 is_inner Plain = false
 is_inner Item = false
