@@ -24,8 +24,8 @@ IsFlag text flag =
     ((text ≡ None) → flag ≡ false) × ((text ≡ Some (codes "true")) → flag ≡ true)
     × ((text ≡ Some (codes "false")) → flag ≡ false)
 
--- The result m of `clap` has the values of the command line `words`. For each argument id, the methods `get_str`,
--- `get_one` and `get_flag` of m read the argument's first value in the command line `words`.
+-- The value m is the result of parsing the command line `words` with `clap`. The methods `get_str`, `get_one` and
+-- `get_flag` of the parsing result m give an argument's first value in the command line `words`.
 abbrev pub IsFound : App → List (List ℕ) → ArgMatches → Type 0
 IsFound line words m =
     (first_value (found_of m) ≡ λ id. first_of id (matches_of line words))

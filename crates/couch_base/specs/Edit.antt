@@ -68,7 +68,7 @@ needs_id (Err faults.Conflict) = false
 needs_id (Err faults.GenerationFull) = false
 needs_id answer = true
 
--- The result of an edit is the expected result or `Memory`. An edit returns `Memory` only if the expected result is not
+-- The result of an edit is the expected result or `Memory`. An edit never returns `Memory` if the expected result is
 -- `NoSuchDocument`, `Conflict` or `GenerationFull`.
 abbrev pub EditGives : {A : Type 0} → Result A BaseFault → Result A BaseFault → Type 0
 EditGives (Err faults.Memory) expected = IsTrue (needs_id expected)

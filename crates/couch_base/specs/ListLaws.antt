@@ -1,4 +1,5 @@
--- Lemmas about lists: whether at least one element or all elements pass a test, and lists without duplicates.
+-- Lemmas about tests of lists (whether at least one element passes, or all elements pass), and about lists without
+-- duplicates.
 use Rattle.std.specs.Prelude.{◌≡◌, ℕ, Bool, true, false, ◌||◌, List, [], ◌∷◌, ◌++◌, map, filter, refl}
 use Rattle.std.proofs.Common.{ap, ◌∙◌}
 use Rattle.std.proofs.lemmas.Bool.{or_right, cond_both, or_parts, and_from, or_left, or_from}

@@ -1,4 +1,4 @@
--- Lemmas about the elements of lists that are concatenated, mapped or searched.
+-- Lemmas about the elements of concatenated lists and of mapped lists, and about elements that pass a test.
 use Rattle.std.proofs.Common.{◌≡◌, ◌⊎◌, List, [], ◌∷◌, ◌++◌, Bool, true, false, cond, Some, map, refl, sym, ap, ◌∙◌, inl, inr}
 use Rattle.std.specs.List.{find, list_any, list_all, AllByRecursion}
 use Rattle.std.proofs.lemmas.Bool.{or_left, or_right, or_cases, and_parts, false≢true}

@@ -1,5 +1,6 @@
--- Defines requests for missing revisions and fetched parcels, as specified in docs/PROFILE.md, "Missing revisions" and
--- "Fetching", and in CouchDB, "Replication Protocol", `_revs_diff` and fetches with `latest`.
+-- Defines requests for missing revisions, and fetched parcels, as specified in docs/PROFILE.md, "Missing revisions" and
+-- "Fetching". CouchDB's "Replication Protocol" specifies the corresponding requests: `_revs_diff`, and fetches with
+-- `latest`.
 use Rattle.std.specs.Prelude.{◌≡◌, ℕ, ◌<◌, Bool, true, false, ◌&&◌, ◌||◌, List, [], ◌∷◌, ◌++◌, map, length, Option, refl}
 use Rattle.std.specs.Coded.{Coded, code_by, coded×, coded_ℕ, coded_list}
 use Rattle.std.specs.List.{list_any, list_all, AllByRecursion}
@@ -52,14 +53,14 @@ coded_parcel =
 
 -- ---- requesting
 
--- The list `others` of requests, with a request for the revisions of document `id` put first if the list of revisions
--- is not empty.
+-- The list `others` of requests. If a list of revisions of document `id` is not empty, a request for these revisions is
+-- added at the beginning of the list `others`.
 abbrev pub want_first : Id → List RevId → List WantedValue → List WantedValue
 want_first id [] others = others
 want_first id (r ∷ revs) others = record { id = id; revs = r ∷ revs } ∷ others
 
 -- The requests for missing leaves: one request for each feed row that has missing leaves, in the order of the rows. A
--- leaf of a feed row is missing if the tree of the row's document, among the documents `ds`, does not contain the leaf.
+-- leaf of a feed row is missing if the documents `ds` do not have this leaf in the tree of the row's document.
 abbrev pub wanted : List DocumentValue → List RowValue → List WantedValue
 wanted ds [] = []
 wanted ds (r ∷ rows) = want_first r.id (missing (tree_of ds r.id) r.leaves) (wanted ds rows)

@@ -13,8 +13,8 @@ pub record IsMadeOf (d : Document) (m : PreparedTree) : Type 0 where
   pub tree : m.tree ≡ merged no_revisions d.ancestry (content_of d.deleted d.body) (Feed m.session m.seq)
   pub document : IsDocumentTree m.tree
 
--- If the lists `docs` and `all` have a document and a prepared tree at the same index, the prepared tree is the tree of
--- the document as a new document.
+-- If the list `docs` has a document at an index, a prepared tree at the same index of the list `all` is this document's
+-- tree (`IsMadeOf`).
 abbrev pub AreMade : List Document → List (Option PreparedTree) → Type 0
 AreMade docs all =
     (i : ℕ) (d : Document) (m : PreparedTree) → slice_get docs i ≡ Some d → slice_get all i ≡ Some (Some m) → IsMadeOf d m

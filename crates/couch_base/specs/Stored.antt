@@ -48,8 +48,8 @@ is_live docs e = option_map_or (λ (d : Id × Kept). d.1.seq == e.0) (slice_get 
 abbrev pub live : List (Id × Kept) → List (ℕ × ℕ) → List (ℕ × ℕ)
 live docs rows = filter (is_live docs) rows
 
--- The changes feed of a database: each index row that has the latest change of its document, with the document's id
--- instead of its position.
+-- The changes feed of a database: each index row that has the latest change of a document. A row of the feed has the
+-- document's id instead of the document's position.
 abbrev pub feed_of : List (Id × Kept) → List (ℕ × ℕ) → List (ℕ × Id)
 feed_of docs rows = named (keys_of docs) (live docs rows)
 
@@ -85,7 +85,7 @@ seq_of o = option_map (λ (k : Kept). k.seq) o
 abbrev pub tree_at : Option Kept → TreeValue
 tree_at o = option_map_or (λ (k : Kept). k.tree) o no_revisions
 
--- The document that an index entry with a sequence and an id refers to.
+-- The document of an index entry. The index entry has the document's sequence and id.
 abbrev pub document : (Id → Option Kept) → ℕ × Id → DocumentValue
 document g e = record { id = e.1; seq = e.0; tree = tree_at (g e.1) }
 

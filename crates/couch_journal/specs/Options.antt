@@ -7,7 +7,7 @@ use Rattle.couch_journal.specs.declared.options.NoTask.{NoTask}
 use Rattle.couch_journal.specs.declared.options.NoTask.TheVariants.{Words, Unknown, Memory}
 use Rattle.couch_journal.specs.declared.options.Options.{Options}
 
--- The `clap` rule of the argument that names the task, which is required.
+-- The `clap` rule of the argument that names the task. The argument is required.
 abbrev pub task_word : Rule
 task_word = record (new_rule (codes "task")) { action = Some Set; value_names = 1; required = true }
 

@@ -79,8 +79,8 @@ RunsResponse response ended input text (Err fault) =
 -- ---- `seal`
 
 -- The output and the outcome of the task `seal`. If a block can contain every line of the input, the output is the line
--- that ends a block of all input lines. If a block cannot contain a line of the input, the outcome has the number, from
--- 1, of the first such line, and the output is empty.
+-- that ends a block of all input lines. If a block cannot contain a line of the input, the output is empty. The outcome
+-- then has the number of the first such line, counted from 1.
 abbrev pub Seals : List ℕ → List ℕ → List ℕ → List ℕ → Outcome → Type 0
 Seals chain seq input text outcomes.Done = IsSeal chain seq input text
 Seals chain seq input text (outcomes.Wrong line) =

@@ -16,7 +16,7 @@ abbrev pub wrong_or : Option ℕ → Outcome → Outcome
 wrong_or (Some line) otherwise = Wrong line
 wrong_or None otherwise = otherwise
 
--- The outcome of a task: `Missing` if the task found that something is missing, and otherwise `Done`.
+-- The outcome of a task is `Missing` if the task found that something is missing, and otherwise `Done`.
 abbrev pub missing_or_done : Bool → Outcome
 missing_or_done true = Missing
 missing_or_done false = Done

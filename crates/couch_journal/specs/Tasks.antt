@@ -109,8 +109,8 @@ Fits named.Name o task = (word : Bor (List ℕ)) × (o.first ≡ Some word) × (
 Fits named.Compare o task = task ≡ tasks.Compare o.documents
 Fits named.Info o task = task ≡ tasks.Info
 
--- The task with the name n takes the arguments and options in o. The value `task` is the task named n, with values from
--- the parsed arguments and options in o (`Fits`).
+-- The task with the name n takes the arguments and options in o. The value `task` is the task named n, built from the
+-- parsed arguments and options in o (`Fits`).
 abbrev pub Takes : Named → Options → Task → Type 0
 Takes n o task = (has_other_option n o ≡ false) × (arguments_given o ≡ arguments_of n) × Fits n o task
 

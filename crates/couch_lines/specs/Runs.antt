@@ -79,7 +79,7 @@ Makes (Bulk n whole) left held held' result = (answers : List ℕ) → (document
     → IsScript (wanted_of (Bulk n whole)) answers documents → ReadsAnswers (bodies_of n) documents held held' result
 Makes (Trees db svg) left held held' result = ⊥
 
--- What a run of `couch_lines` with the command line `words` reads and writes, depending on how the run ended. If the
+-- What a run of `couch_lines` reads and writes, depending on the command line `words` and on how the run ended. If the
 -- command line names no task, or an allocation fails before the task starts, the run reads and writes no byte. A run
 -- starts only a task that the command line names. Only the task `trees` draws a picture.
 abbrev pub RunsWords : List (List ℕ) → Option (List ℕ) → Option (List ℕ) → Option (List ℕ) → Option (List ℕ) → Ended → Type 0

@@ -35,8 +35,8 @@ ended_status (NotRun why) = words_status why
 ended_status (Ran run) = status_of run.ended
 ended_status (Drawn ended) = drawn_status ended
 
--- The result of a conversion whose last output could not be flushed, which is `Write`, or an earlier error of the
--- conversion.
+-- The result of a conversion whose last output could not be flushed: the conversion's earlier error if there is one,
+-- and otherwise `Write`.
 abbrev pub unwritten : Result ℕ AnswerFault → Result ℕ AnswerFault
 unwritten (Ok passed) = Err (Device faults.Write)
 unwritten (Err fault) = Err fault

@@ -94,8 +94,8 @@ Asks word second third whole svg task = (n : Named) × (word ≡ Some (word_of n
 -- ---- arguments without a task
 
 -- The reason why task n cannot be built from the argument `word` and the flags `whole` and `svg`. The reason is `Wrong`
--- only if the task named n does not accept the argument `word` and the flags `whole` and `svg`. For every argument, the
--- reason may be `Memory`, which means that an allocation failed.
+-- only if the task named n does not accept the argument `word` and the flags `whole` and `svg`. With any argument
+-- `word`, building a task may fail with the reason `Memory`, which means that an allocation failed.
 abbrev pub FitsNone : Named → Option (List ℕ) → Bool → Bool → NoTask → Type 0
 FitsNone n word whole svg (Words error) = ⊥
 FitsNone n word whole svg Unknown = ⊥
@@ -103,7 +103,8 @@ FitsNone n word whole svg (Wrong m) = (m ≡ n) × ((t : Task) → Fits n word w
 FitsNone n word whole svg Memory = Unit {0}
 
 -- The reason why task n does not accept an argument. The reason is `Wrong` only if the argument is absent or is not a
--- database name. For every argument, the reason may be `Memory`, which means that an allocation failed.
+-- database name. With any argument `word`, building a task may fail with the reason `Memory`, which means that an
+-- allocation failed.
 abbrev pub NamesNone : Named → Option (List ℕ) → NoTask → Type 0
 NamesNone n word (Words error) = ⊥
 NamesNone n word Unknown = ⊥
@@ -122,7 +123,7 @@ AskNothing word second third whole svg Memory = Unit {0}
 
 -- ---- the command line
 
--- The `clap` rule of the first argument of `couch_lines`, which is required.
+-- The `clap` rule of the first argument of `couch_lines`. The argument is required.
 abbrev pub task_word : Rule
 task_word = record (new_rule (codes "task")) { action = Some Set; value_names = 1; required = true }
 
@@ -156,7 +157,7 @@ text_said words id = first_of id (matches_of command_line words)
 abbrev pub flag_said : List (List ℕ) → List ℕ → Option (List ℕ)
 flag_said words id = one_of id (matches_of command_line words)
 
--- The arguments of the command line name the given task.
+-- The task `task` is the task that the arguments of the command line describe.
 abbrev pub Says : List (List ℕ) → Task → Type 0
 Says words task = SaysBy (text_said words) (flag_said words (codes "whole")) (flag_said words (codes "svg")) task
 

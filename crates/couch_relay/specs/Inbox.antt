@@ -17,8 +17,9 @@ pub record IsInbox (inbox : Inbox) : Type 0 where
   pub within : inbox.at ≤ length inbox.held.items
   pub some : 0 < length inbox.buffer.items
 
--- A call has read bytes from a reader. The list `old` has all bytes that the reader had returned before the call. The
--- list `new` has all bytes that the reader had returned by the end of the call.
+-- By reading from a reader, a call has extended the list `old` of bytes to the list `new`. The list `old` has all bytes
+-- that the reader had returned before the call. The list `new` has all bytes that the reader had returned by the end of
+-- the call.
 abbrev pub Took : Option (List ℕ) → Option (List ℕ) → Type 0
 Took old new = (bytes : List ℕ) × Appends old new bytes
 
@@ -42,8 +43,8 @@ BeginsWithHead bytes head rest = (line : List ℕ) × IsLine bytes line rest × 
 
 -- The result of reading the head of a response. The call appends the bytes that it reads to the inbox's pending bytes,
 -- which are not yet used. A head is the first line of a response. If the call returns a head, the pending bytes began
--- with this line, and the bytes after the line remain pending. If the call returns no head, the pending bytes did not
--- begin with a complete response.
+-- with the head's line, and the bytes after the head's line remain pending. If the call returns no head, the pending
+-- bytes did not begin with a complete response.
 abbrev pub ReadsHead : Option (List ℕ) → Option (List ℕ) → Type 0 → List ℕ → List ℕ → Option Head → Type 0
 ReadsHead old new ended before after head =
     (bytes : List ℕ) × Appends old new bytes

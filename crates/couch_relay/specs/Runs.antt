@@ -61,8 +61,8 @@ abbrev pub Exchanged : RequestOptions → List Exchange → List ℕ → List �
 Exchanged o [] read written = (read ≡ []) × (written ≡ [])
 Exchanged o (e ∷ h) read written = IsNext o e (Exchanged o h) read written
 
--- The run has read the bytes `read` and written the bytes `written` in a list of exchanges. The rule `MayAsk` allows
--- each request in this list of exchanges, and allows the request `next` after these exchanges.
+-- In its exchanges (requests and responses), a run has read the bytes `read` and written the bytes `written`. The rule
+-- `MayAsk` allows each request that the run has sent, and allows `next` as the run's next request.
 pub record IsRun (o : RequestOptions) (read written : List ℕ) (next : RequestView) : Type 0 where
   pub history : List Exchange
   pub exchanged : Exchanged o history read written
@@ -116,7 +116,7 @@ pub record RanUntil (o : RequestOptions) (input text : List ℕ) : Type 0 where
 
 -- ---- command line and selection
 
--- The request options o have the values of the command line and the given selection.
+-- The request options o have the values of the command line, and have the selection `choice`.
 pub record AreOptions (options : Options) (choice : Text) (o : RequestOptions) : Type 0 where
   pub path : string_bytes o.log_path
       ≡ log_path options.source.now options.target.now options.filter.now options.query.now choice options.salt.now
@@ -152,10 +152,10 @@ NoChoice ended input =
     NoFrame ended input
     ⊎ ((frame body rest : List ℕ) × (head : HeadView) × (input ≡ frame ++ rest) × IsFrame frame head body × ¬ IsUtf8 body)
 
--- The result of reading a selection of documents. The call appends the bytes that it reads to the inbox's pending
--- bytes, which are not yet used. If the call returns a selection of documents, the pending bytes began with a response
--- that has this selection. The bytes after this response remain pending. If the call returns no selection of documents,
--- the inbox's pending bytes did not begin with a response that has a selection.
+-- The result of reading a response that has a selection of documents. The call appends the bytes that it reads to the
+-- inbox's pending bytes, which are not yet used. If the call returns a selection of documents, the pending bytes began
+-- with a response that has this selection. The bytes after this response remain pending. If the call returns no
+-- selection of documents, the inbox's pending bytes did not begin with a response that has a selection.
 abbrev pub ReadsChoice : Option (List ℕ) → Option (List ℕ) → Type 0 → List ℕ → List ℕ → Option Text → Type 0
 ReadsChoice old new ended before after choice =
     (bytes : List ℕ) × Appends old new bytes
@@ -209,7 +209,7 @@ RunsWords words ended input text (end.NotRun why) = (input ≡ []) × (text ≡ 
 RunsWords words ended input text (end.Ran ran) =
     (options : Options) × Says words options × RunsOptions options ended input text ran
 
--- If the program made a run that ended with an exit status, the statement p is true.
+-- The statement p is true if the program made a run, and the run ended with an exit status.
 abbrev pub IfRan : Ended → Type 0 → Type 0
 IfRan (end.NotRun why) p = Unit {0}
 IfRan (end.Ran (Ok status)) p = p

@@ -54,9 +54,9 @@ Says words o = AreOptions (λ id. first_of id (matches_of options words)) (λ id
 
 -- ---- arguments without settings
 
--- The reason why the program cannot compute its settings from the texts of the options. If the reason is `NoNumber`,
--- there are no settings that have the values in the texts of the options. If the reason is `File`, the command line has
--- a positional argument. If the reason is `Memory`, an allocation failed.
+-- The reason why the program cannot compute its settings from the texts of the options. If the reason is `NoNumber`, no
+-- settings fit the texts of the options (`AreSettings`). If the reason is `File`, the command line has a positional
+-- argument. If the reason is `Memory`, an allocation failed.
 abbrev pub SetNothing : (List ℕ → Option (List ℕ)) → (List ℕ → Option (List ℕ)) → NoSettings → Type 0
 SetNothing text number (Words error) = ⊥
 SetNothing text number NoNumber = (s : Settings) → AreSettings text number s → ⊥
@@ -64,7 +64,7 @@ SetNothing text number File = text (codes "file") ≡ None → ⊥
 SetNothing text number Memory = Unit {0}
 
 -- The reason why the program cannot compute its options from the arguments `words`. If the reason is `Words`, `clap`
--- returned an error. If the reason is `NoNumber`, there are no `Options` that have the values in the arguments. If the
+-- returned an error. If the reason is `NoNumber`, no value of the type `Options` fits the arguments (`Says`). If the
 -- reason is `File`, the command line has a positional argument. If the reason is `Memory`, an allocation failed.
 abbrev pub Refuses : List (List ℕ) → NoSettings → Type 0
 Refuses words (Words error) = HasKind (fault_of options words) error

@@ -1,5 +1,5 @@
--- Defines what runs of `couch_replicate` read, write and return, with any reader and writer, and with standard input
--- and output, as specified in docs/PROFILE.md, "Options" and "Answers".
+-- Defines what runs of `couch_replicate` read, write and return, as specified in docs/PROFILE.md, "Options" and
+-- "Answers". A run uses a given reader and writer, or standard input and standard output.
 use Rattle.std.specs.Prelude.{◌≡◌, ℕ, List, [], Bool, Option, Result, Ok, Err, OnOk}
 use Rattle.std.specs.Io.KnownBytes.{Appends, Consumes}
 use Rattle.script_engine.specs.Device.{Gives}

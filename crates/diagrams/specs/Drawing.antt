@@ -61,7 +61,7 @@ pub data IsNext : Option Document → Told → Option Document → Option Whole 
   -- A line of a script's output that begins a document.
   opened : {old : Option Document} {id : String Global} {count : ℕ} {d : Document} → Holds d (string_bytes id) [] → d.count ≡ count
       → IsNext old (told.Document id count) (Some d) None
-  -- A line of a script's output that prints a leaf of an incomplete document, but not the document's last leaf.
+  -- A line of a script's output with a leaf of an incomplete document, if the leaf is not the document's last leaf.
   more : {d e : Document} {live : Bool} {revs : Vec RevId Global} (r : RevId) → head_of revs.items ≡ Some r
       → Holds e (string_bytes d.id) (with_leaf (states d) r live) → e.count ≡ d.count → vec_len e.leaves < e.count
       → IsNext (Some d) (told.Leaf live revs) (Some e) None
@@ -69,10 +69,10 @@ pub data IsNext : Option Document → Told → Option Document → Option Whole 
   whole : {d e : Document} {live : Bool} {revs : Vec RevId Global} (r : RevId) → head_of revs.items ≡ Some r
       → Holds e (string_bytes d.id) (with_leaf (states d) r live) → e.count ≡ d.count → e.count ≤ vec_len e.leaves
       → IsNext (Some d) (told.Leaf live revs) None (Some (wholes.Tree e))
-  -- A line of a script's output that prints a leaf, although the lines before it leave no document incomplete.
+  -- A line of a script's output with a leaf, if no document is incomplete before this line.
   loose : {live : Bool} {revs : Vec RevId Global} → IsNext None (told.Leaf live revs) None None
-  -- A line of a script's output that prints a leaf with an empty list of revisions. Parsing never produces a leaf with
-  -- an empty list of revisions.
+  -- A line of a script's output with a leaf whose list of revisions is empty. Parsing never produces a leaf with an
+  -- empty list of revisions.
   empty : {old : Option Document} {live : Bool} {revs : Vec RevId Global} → head_of revs.items ≡ None → IsNext old (told.Leaf live revs) None None
   -- A line of a script's output that prints a document's id and its live leaves.
   conflict : {old : Option Document} {id : String Global} {revs : Vec RevId Global} {e : Document} → Holds e (string_bytes id) (with_all [] revs.items)
@@ -129,8 +129,8 @@ pub record Takes (old : Sketch) (line : List ℕ) (new : Sketch) (text : List �
   pub tally : new.tally ≡ with_told old.tally told
 
 -- The result of processing a line of a script's output: the drawing of the item that the line completes, or an error.
--- After a failed allocation, no document is incomplete, and the line is counted as a line that can be output of
--- `couch_replicate`.
+-- If an allocation fails, no document is incomplete afterwards, and the processed line is counted as a line that
+-- `couch_replicate` can print.
 abbrev pub Pictures : Answering Sketch (List ℕ)
 Pictures old line (Ok text) new = Takes old line new text
 Pictures old line (Err name) new =
@@ -196,8 +196,8 @@ pub record IsPicturedUntil (fault : ScriptFault) (form : Form) (db : Option (Lis
   pub written : Appends held held' text
   pub drawn : IsDrawnUntil fault form db input text
 
--- If `draw_answers` succeeds, it has written a complete picture of the script's output that the reader had left. If
--- `draw_answers` fails, the text that it has written is a prefix of a picture.
+-- If `draw_answers` succeeds, it has read a script's output from the reader to the end, and has written a complete
+-- picture of this output. If `draw_answers` fails, the text that it has written is a prefix of a picture.
 abbrev pub PicturedBy : Result Outcome ScriptFault → Form → Option (List ℕ) → Option (List ℕ) → Option (List ℕ) → Option (List ℕ) → Type 0
 PicturedBy (Ok outcome) form db left held held' = IsPictured form db outcome left held held'
 PicturedBy (Err fault) form db left held held' = IsPicturedUntil fault form db left held held'

@@ -85,14 +85,14 @@ shown_text form text = encode_utf8_all (shown form (chars text))
 pub data Sign : Type 0 where
   -- A document id in a picture.
   title : Form → List ℕ → Sign
-  -- A leaf in a picture, with its revision, whether the leaf wins, and whether the leaf is live.
+  -- A leaf in a picture: its revision, and two flags that say whether the leaf wins, and whether the leaf is live.
   leaf : Form → RevId → Bool → Bool → Sign
-  -- The command in a text picture that would delete a losing leaf, with the database, the document id and the leaf's
-  -- revision.
+  -- In a text picture, the command that would delete a losing leaf. The command has the database, the document id and
+  -- the leaf's revision.
   edit : List ℕ → List ℕ → RevId → Sign
-  -- A finding of `compare` in a picture, with the document id.
+  -- In a picture, a finding of `compare` together with the document's id.
   found : Form → Finding → List ℕ → Sign
-  -- A revision in a picture that a finding of `compare` lists.
+  -- In a picture, one of the revisions that a finding of `compare` lists.
   listed : RevId → Sign
   -- The heading of a row of numbers in a picture, such as `database` with the database's name.
   heading : Form → Table → List ℕ → Sign
@@ -147,8 +147,8 @@ table_text tables.Compared = codes "compare"
 table_text tables.Info = codes "database "
 table_text tables.Session = codes "session "
 
--- The length that the number `part` has in a bar in which the total `all` has length 400. A `share` is at most 400, and
--- is 400 if the total `all` is 0.
+-- The length with which a bar shows the number `part`. The complete bar has the length 400, and shows the total `all`.
+-- A `share` is at most 400, and is 400 if the total `all` is 0.
 abbrev pub share : ℕ → ℕ → ℕ
 share part all = if all == 0 then 400 else (if nat_le 400 (part * 400 / all) then 400 else part * 400 / all)
 
@@ -223,7 +223,7 @@ sign_in (short r) = []
 sign_in (sign s) = s ∷ []
 
 -- The text `new` is the text `old`, followed by pieces of a picture such as markup, numbers, ancestors and leaves. The
--- list `signs` has, in order, the items that a picture must show (`Sign`) among the pieces that `new` adds to `old`.
+-- list `signs` has the items (`Sign`) that the added pieces show, in the order of the pieces.
 pub record Draws (old new : List ℕ) (signs : List Sign) : Type 0 where
   pub pieces : List Piece
   pub ink : new ≡ old ++ flat_map ink_of pieces
@@ -260,10 +260,10 @@ abbrev pub counts_of : List Column → List ℕ → List Sign
 counts_of (c ∷ cs) (n ∷ ns) = count c n ∷ counts_of cs ns
 counts_of cs ns = []
 
--- A list with the bar that follows the numbers of `compare` or of a session in a picture, or the empty list for `info`.
--- For the numbers of `compare`, the filled part of the bar represents the compared leaves that the target has. For the
--- numbers of a session, the complete bar represents the documents read, and the filled part represents the documents
--- written.
+-- The bars that a picture has after a row of numbers: one bar after the numbers of `compare` or of a session, and no
+-- bar after the numbers of `info`. For the numbers of `compare`, the filled part of the bar represents the compared
+-- leaves that the target has. For the numbers of a session, the complete bar represents the documents read, and the
+-- filled part represents the documents written.
 abbrev pub bars_of : Form → Table → List ℕ → List Sign
 bars_of form tables.Compared ns = bar form (get_or ns 1 0 - get_or ns 2 0) (get_or ns 1 0) ∷ []
 bars_of form tables.Info ns = []

@@ -9,7 +9,7 @@ use Rattle.doc_envelope.specs.Texts.{is_json}
 use Rattle.doc_envelope.specs.Members.{is_blank, members_of, joined, object_of}
 use Rattle.doc_envelope.specs.Names.{has_name, value_of}
 
--- The name of the member of an envelope that holds the wrapped members.
+-- In an envelope, the name of the member with the wrapped members.
 abbrev pub whole_name : List ℕ
 whole_name = codes "\"whole\""
 

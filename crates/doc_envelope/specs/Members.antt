@@ -45,9 +45,9 @@ length_in m n (b ∷ t) = cond (ends_member m n b) 0 (length_in (mode_behind m b
 abbrev pub first_length : List ℕ → ℕ
 first_length t = length_in Outside 0 t
 
--- The texts of the members in an object, from the current member on. A scan of the object's remaining text, up to the
--- bracket that closes the object, gives the end of this member and the later members. The text u is the part of the
--- current member that was already scanned.
+-- The texts of the members in an object, from the current member on. A scan of the object's remaining text finds the
+-- end of the current member, and then the later members. The scan ends at the bracket that closes the object. The text
+-- u is the part of the current member that was already scanned.
 unfoldable pub members_in : Mode → ℕ → List ℕ → List ℕ → List (List ℕ)
 members_in m n u [] = cond (length u == 0) [] (u ∷ [])
 members_in m n u (b ∷ t) =

@@ -24,7 +24,7 @@ pub record IsPrintedValue (t : List ℕ) : Type 0 where
   pub nests : depth value < max_depth
   pub text : t ≡ print (json_tokens value)
 
--- The text m is what the crate `json` prints for a member with a name and a value that an envelope may have.
+-- The text m is a member that an envelope may have, as the crate `json` prints the member.
 pub record IsPrintedMember (m : List ℕ) : Type 0 where
   pub utf8 : IsUtf8 m
   pub name : List ℕ
@@ -70,7 +70,7 @@ pub record EndsPrinted (t : List ℕ) : Type 0 where
   pub string : List ℕ
   pub text : t ≡ escape string ++ 34 ∷ []
 
--- The text t is a member that an envelope may have, in the form that the crate `json` prints, followed by a closing
+-- The text t has two parts: a member that an envelope may have, as the crate `json` prints the member, and a closing
 -- brace.
 pub record EndsEnvelope (t : List ℕ) : Type 0 where
   pub member : List ℕ

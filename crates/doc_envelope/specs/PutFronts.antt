@@ -11,8 +11,8 @@ use Rattle.doc_envelope.specs.Streams.{Front, MayStream, Opens, mode_after}
 abbrev pub made_from : List ℕ → List ℕ
 made_from s = texts_with (123 ∷ []) (members_in Outside 0 [] (drop 1 s))
 
--- The members of the partial document s that the envelope puts into the string of its member `whole`, separated by
--- commas.
+-- Those members of the partial document s that the envelope puts into the string `whole`. Commas separate these
+-- members.
 abbrev pub held_from : List ℕ → List ℕ
 held_from s = helds_by [] (members_in Outside 0 [] (drop 1 s))
 
@@ -27,9 +27,9 @@ pub record InAttachments (s : List ℕ) : Type 0 where
   pub quoted : mode_after Outside member ≡ Quoted
   pub named : has_name member (codes "\"_attachments\"") ≡ true
 
--- A run of string bytes (`IsRun`) may follow the beginning s of a document. The text S is the beginning of an envelope,
--- and has a complete member. If a document begins with s, and its envelope stores all later members in the string
--- `whole`, the envelope begins with the text S.
+-- A run of string bytes (`IsRun`) may follow the beginning s of a document. The text S is the output for s: the
+-- beginning of an envelope, with at least one complete member. If a document begins with s, its envelope begins with
+-- the output S, provided that the envelope stores all later members in the string `whole`.
 pub record IsPutStart (s S : List ℕ) : Type 0 where
   pub may : MayStream s
   pub inside : InAttachments s

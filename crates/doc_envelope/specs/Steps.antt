@@ -1,10 +1,11 @@
--- Defines how wrapping a document in an envelope, and unwrapping an envelope, build their output text member by member.
+-- Defines how the text of an envelope is built from a document's members, and the text of a document from an envelope's
+-- members.
 use Rattle.std.specs.Prelude.{ℕ, ◌==◌, nat_lt, length, get_or, drop, ◌+◌, List, [], ◌∷◌, ◌++◌, cond, Option, Some, option_map, option_and_then}
 use Rattle.json.specs.Print.{quoted}
 use Rattle.doc_envelope.specs.Members.{is_blank}
 use Rattle.doc_envelope.specs.Envelopes.{whole_name, stays, unfolded_member}
 
--- The text of an object without its closing brace, after member m is appended to the text t.
+-- The text t (the beginning of an object), followed by the member m. A comma precedes m if t already has a member.
 abbrev pub added : List ℕ → List ℕ → List ℕ
 added t m = cond (nat_lt 1 (length t)) (t ++ 44 ∷ m) (t ++ m)
 

@@ -9,8 +9,8 @@ use Rattle.doc_envelope.specs.Streams.{Front, MayStream}
 abbrev pub whole_before : List ℕ → List ℕ
 whole_before t = codes "\"whole\":\"" ++ t
 
--- The text q is the beginning of a JSON string, from the opening quotation mark, and has content that is not blank.
--- Appending the members in the partial JSON string q to the object's text `made` gives the text S.
+-- The text q is the beginning of a JSON string, from the opening quotation mark, and has content that is not blank. The
+-- text S is the beginning `made` of an object's text, followed by the members in the partial JSON string q.
 pub record AppendsOpen (q made S : List ℕ) : Type 0 where
   pub content : List ℕ
   pub says : string_of (q ++ 34 ∷ []) ≡ Some content

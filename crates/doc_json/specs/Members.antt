@@ -6,7 +6,7 @@ use Rattle.std.specs.List.{list_any}
 use Rattle.serde_json.specs.Data.{Members, no_members, member}
 use Rattle.doc_json.specs.DocId.{is_special}
 
--- The members of an object whose names do not begin with `_`.
+-- The members of an object, without members whose names begin with `_`.
 abbrev pub plain_members : Members → Members
 plain_members no_members = no_members
 plain_members (member name d ms) = if is_special name then plain_members ms else member name d (plain_members ms)

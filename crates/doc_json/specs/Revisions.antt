@@ -63,13 +63,13 @@ agrees (Some r) revs = is_head r revs
 abbrev pub matched : Option RevId → List RevId → Result (List RevId) DocFault
 matched rev revs = if agrees rev revs then Ok revs else Err faults.RevMismatch
 
--- The ancestry of a document without `_revisions`, which is `_rev` alone.
+-- The ancestry of a document that has no `_revisions`: only the revision `_rev`, or the error `NoRev` without `_rev`.
 abbrev pub alone : Option RevId → Result (List RevId) DocFault
 alone None = Err faults.NoRev
 alone (Some r) = Ok (r ∷ [])
 
--- The ancestry whose newest revision has the generation `start`, and whose revisions have the given signatures, checked
--- against the value of `_rev`.
+-- The ancestry that has the signatures `sigs`, and has the generation `start` for its newest revision. If the document
+-- has `_rev`, the newest revision must be the value of `_rev`.
 abbrev pub numbered_beside : Option RevId → Option ℕ → Option (List (List ℕ)) → Result (List RevId) DocFault
 numbered_beside rev start sigs = numbered_from start sigs >>= matched rev
 

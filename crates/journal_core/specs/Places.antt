@@ -26,7 +26,7 @@ seq_of count line = drop (length (sum_head count) + 65) line
 unfoldable pub hash_at : Place → List ℕ → List ℕ
 hash_at place line = block_hash place.chain (seq_of (length place.held) line) (joined place.held)
 
--- The line that ends the current block with a right checksum, if the sequence in `line` is the block's sequence.
+-- The last line of the current block, with the right checksum for the block sequence that is in the line `line`.
 unfoldable pub right_end : Place → List ℕ → List ℕ
 right_end place line = sum_line (length place.held) (hash_at place line) (seq_of (length place.held) line)
 
@@ -45,7 +45,7 @@ closed place line hash = record {
   whole = true;
 }
 
--- The place of a journal reader after a line that ends a block with a wrong checksum.
+-- The place of a journal reader after the last line of a block, if this line has a wrong checksum.
 abbrev pub damaged : Place → Place
 damaged place = record { chain = place.chain; seq = place.seq; confirmed = place.confirmed; held = place.held; whole = false }
 

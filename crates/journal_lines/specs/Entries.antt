@@ -7,8 +7,8 @@ use Rattle.journal_lines.specs.declared.entry.Entry.{Entry}
 use Rattle.journal_lines.specs.declared.entry.Entry.TheVariants as entries
 
 -- The content of a journal line: the leaves of a document (`state`), its requested leaves (`lacks`), or the document's
--- id, ancestry and deleted flag (`leaf`). The content of a journal line that neither lists leaves nor has a document is
--- `wrong`.
+-- id, ancestry and deleted flag (`leaf`). The content `wrong` means that a journal line neither lists leaves nor has a
+-- document.
 pub data EntryView : Type 0 where
   state : LeavesView → EntryView
   lacks : LeavesView → EntryView

@@ -28,7 +28,7 @@ are_digits ds = nat_lt 0 (length ds) && list_all (λ c. nat_lt (digit_value c) 1
 abbrev pub number_of_digits : List ℕ → Option ℕ
 number_of_digits ds = if are_digits ds && nat_lt (digits_value 10 ds) (2 ^ 64) then Some (digits_value 10 ds) else None
 
--- The number of a JSON value, if this number has no sign, point or exponent, and at most 64 bits.
+-- The number of a JSON value, if the number has at most 64 bits and is written with digits only.
 abbrev pub number_in : Json → Option ℕ
 number_in j = option_and_then (λ s. number_of_digits (without_leading_plus s)) (as_number j)
 

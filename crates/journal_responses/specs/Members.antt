@@ -15,7 +15,8 @@ seq_in (string s) = token s
 seq_in (array js) = None
 seq_in (object ms) = None
 
--- The sequence in a JSON object's member, if the member is a number or a string that is a sequence.
+-- The sequence in a member of a JSON object. The result is `None` if the member is absent, or if its value is neither a
+-- number nor a string with a sequence.
 abbrev pub seq_at : List ℕ → Json → Option (List ℕ)
 seq_at name j = option_and_then seq_in (get name j)
 

@@ -20,8 +20,8 @@ NotBeforeComma AfterValue text = head text ≢ 44
 NotBeforeComma AfterComma text = ⊤
 NotBeforeComma Failed text = ⊤
 
--- If a value or a name may begin at the start of the text `old`, the token t is the first token of `old`. After its
--- first token t, the text `old` has the tokens of the text `new` from the grammar position `place` on.
+-- If a value or a name may begin at the start of the text `old`, the token t is the first token of `old`. The tokens of
+-- `old` after the token t are the tokens of the text `new`, if `new` is read from the grammar position `place`.
 abbrev pub Begins : List ℕ → Token → Place → List ℕ → Type 0
 Begins old t place new = (p : spec.Place) → may_begin p ≡ true → punctuate p (lex between old) ≡ t ∷ tokens_at place new
 

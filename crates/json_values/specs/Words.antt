@@ -16,11 +16,12 @@ abbrev pub WordAt : List ℕ → ℕ → Option (Token × ℕ) → spec.Token �
 WordAt d i r w =
     MatchOption r (w ≡ bad) (λ p. (w ≡ token_of p.0) × (is_good w ≡ true) × (i < p.1) × (p.1 ≤ length d) × (lex between (drop p.1 d) ≡ drop 1 (lex between (drop i d))))
 
--- The text `name` is a JSON literal: if a delimiter or the text's end follows, the lexer reads `name` as one lexeme.
+-- The text `name` is a JSON literal: the lexer reads `name` as one lexeme if a delimiter or the end of the input
+-- follows `name`.
 abbrev pub IsLiteral : List ℕ → spec.Token → Type 0
 IsLiteral name t = (0 < length name) × (is_good t ≡ true) × ((r : List ℕ) → ends_word r ≡ true → lex between r ≡ drop 1 (lex between (name ++ r)))
 
--- The part of the text d from index i up to, but not including, index `end` is the number n.
+-- In the text d, the number n begins at index i and ends before index `end`.
 pub record IntegerAt (d : List ℕ) (i : ℕ) (n : Num) (end : ℕ) : Type 0 where
   pub within : i < length d
   pub from : i ≤ end

@@ -49,8 +49,9 @@ pub record IsDoneOn {S : Type 0} (steps ends : Steps S) (start : S) (given : Lis
 abbrev pub IsDone : {S : Type 0} → Steps S → Steps S → S → Option (List ℕ) → Option (List ℕ) → S → Option (List ℕ) → Type 0
 IsDone steps ends start left held state held' = IsDoneOn steps ends start (Gives left) held state held'
 
--- A task has read its complete input (`IsDoneOn`). The input is the bytes that the reader returned during a call. The
--- arguments `taken` and `taken'` are the bytes that the reader had returned before and after the call.
+-- A task has read its complete input (`IsDoneOn`). The input is the bytes that the reader returned during a call.
+-- Before the call, the reader had returned the bytes `taken`. By the end of the call, the reader had returned the bytes
+-- `taken'`.
 abbrev pub HasDone : {S : Type 0} → Steps S → Steps S → S → Option (List ℕ) → Option (List ℕ) → Option (List ℕ) → S → Option (List ℕ)
     → Type 0
 HasDone steps ends start taken taken' held state held' = IsDoneOn steps ends start (Appends taken taken') held state held'
@@ -104,8 +105,8 @@ Kept S = List (List ℕ) → List ℕ → S → Type 0
 abbrev pub Ended : Type 0 → Type 1
 Ended S = List (List ℕ) → List ℕ → List ℕ → S → Type 0
 
--- The step that a task makes for a line: if the statement `kept` is true before the task reads the line, `kept` is true
--- afterwards.
+-- A task's step for a line keeps the statement `kept` true. If `kept` is true before the task reads the line, `kept` is
+-- true afterwards.
 abbrev pub StepsBy : {S : Type 0} → Kept S → Steps S
 StepsBy {S} kept old line added new =
     (lines : List (List ℕ)) (text : List ℕ) → kept lines text old → kept (lines ++ line ∷ []) (text ++ added) new
@@ -121,8 +122,9 @@ abbrev pub HasPrinted : {S : Type 0} → Ended S → List ℕ → List ℕ → S
 HasPrinted {S} ended input text state =
     (lines : List (List ℕ)) × (rest : List ℕ) × AreLines input lines rest × ended lines rest text state
 
--- The output `text` of a task that an error stopped is a prefix of the output for the input's first lines. If the input
--- was read to its end (the statement `all`), `text` may instead be a prefix of the output for the complete input.
+-- If an error stopped a task, its output `text` is a prefix of the output for the input's first n lines, for a number
+-- n. If the task had read the complete input (the statement `all`), `text` may instead be a prefix of the output for
+-- the complete input.
 abbrev pub HasPrintedPart : {S : Type 0} → Kept S → Ended S → Type 0 → List ℕ → List ℕ → Type 0
 HasPrintedPart {S} kept ended all input text =
     ((lines : List (List ℕ)) × (rest back : List ℕ) × (state : S) × (input ≡ joined lines ++ rest)

@@ -47,7 +47,7 @@ pub record EndsIn (column : Column) (n : ℕ) (front text : List ℕ) : Type 0 w
   pub form : text ≡ front ++ named (column_text column) word
   pub number : IsNumber word n
 
--- The text `text` consists of `front` and then the columns in the list `columns`, with the numbers in the list
+-- The text `text` is `front`, followed by the columns of the list `columns`. The columns show the numbers of the list
 -- `numbers`. The lists `columns` and `numbers` are in reverse order: both begin with the item for the text's last
 -- column.
 abbrev pub Ends : List Column → List ℕ → List ℕ → List ℕ → Type 0

@@ -61,7 +61,8 @@ pub record IsListed (word line id : List ℕ) (revs : List RevId) : Type 0 where
   pub parts : ListedParts word line id list
   pub listed : IsRevs list revs
 
--- The first word, and the blank after it, of a line `missing ID REVS`, `contradicts ID REV` or `differs ID REVS`.
+-- The beginning of a line `missing ID REVS`, `contradicts ID REV` or `differs ID REVS`: the line's first word and the
+-- blank after this word.
 abbrev pub finding_text : Finding → List ℕ
 finding_text findings.Missing = codes "missing "
 finding_text findings.Contradicts = codes "contradicts "
@@ -77,7 +78,7 @@ NoRow line table = (name numbers : List ℕ) → IsRow table line name numbers �
 abbrev pub NoLog : List ℕ → Type 0
 NoLog line = (id : List ℕ) (entries : List Logged) → IsLog line id entries → ⊥
 
--- The line has no format of `show` or `conflicts`.
+-- The line has neither a format of `show` nor the format of `conflicts`.
 abbrev pub NoTree : List ℕ → Type 0
 NoTree line =
     ((id : List ℕ) (count : ℕ) → IsDocLine line id count → ⊥) × ((live : Bool) (revs : List RevId) → IsLeafLine line live revs → ⊥)
@@ -87,7 +88,7 @@ NoTree line =
 abbrev pub NoMore : List ℕ → Type 0
 NoMore line = ((finding : Finding) → NoFinding line finding) × ((table : Table) → NoRow line table) × NoLog line
 
--- The contents of a line of a script's output that does not describe a document's tree.
+-- The contents of a line of a script's output, if the line does not describe a document's tree.
 abbrev pub TellsMore : List ℕ → Told → Type 0
 TellsMore line (told.Document id count) = ⊥
 TellsMore line (told.Leaf live revs) = ⊥

@@ -18,8 +18,8 @@ is_of_changes line =
     || begins line (codes "last ") || begins line (codes "backed ") || begins line (codes "restored ")
     || begins line (codes "conflicts ")
 
--- Whether the line begins as a line about a session or an audit, or as an error line. The line `clean`, which the
--- command `audit` prints, must match completely.
+-- Whether the line begins as a line about a session or an audit, or as an error line. The value is also true of the
+-- line `clean`, which the command `audit` prints, but not of longer lines that begin with `clean`.
 abbrev pub is_of_sessions : List ℕ → Bool
 is_of_sessions line =
     bytes_eq line (codes "clean") || begins line (codes "progress ") || begins line (codes "stopped ")
@@ -34,7 +34,7 @@ is_document line = begins line (codes "{\"_id\":\"") && not (begins line (codes 
 abbrev pub is_undrawn : List ℕ → Bool
 is_undrawn line = is_of_changes line || is_of_sessions line || is_document line
 
--- The parsed form of a line that pictures do not show: `Other` if `couch_replicate` prints such lines, and otherwise
--- `Unknown`.
+-- The parsed form of a line that pictures do not show. The parsed form is `Other` if the line can be output of
+-- `couch_replicate` (`is_undrawn`), and otherwise `Unknown`.
 abbrev pub other_of : List ℕ → Told
 other_of line = if is_undrawn line then told.Other else told.Unknown

@@ -13,8 +13,8 @@ abbrev pub seat_view : Bool → Bool → ℕ → List ℕ → List ℕ → SeatV
 seat_view deals works number reads settles =
     record { deals = deals; works = works; number = number; reads = reads; settles = settles }
 
--- The state of a board's dealer (the value that creates the board's seats) after the dealer has created n workers'
--- seats. The board has k workers, and a seat is an access token for the board's counters.
+-- The state of a board's dealer after the dealer has created the seats of n workers. A dealer creates the seats of a
+-- progress board. The board has k workers, and a seat is an access token for the board's counters.
 abbrev pub dealer : ℕ → ℕ → SeatView
 dealer k n = seat_view true false n (replicate k 0) (replicate k 0)
 
@@ -41,26 +41,26 @@ added_settled v n =
     seat_view v.deals v.works v.number v.reads (slice_set v.settles v.number (slice_index v.settles v.number + n))
 
 -- A seat (an access token for a progress board) changes from v to w by loading the value n of worker i's read counter.
--- The seat's lower bound of worker i's read counter is at most n before the seat loads n, and is n afterwards. Before
--- worker i's own seat loads the value n of worker i's read counter, its lower bound of this counter already is n.
+-- Before a seat loads the value n of a read counter, the seat's lower bound of the counter is at most n. After the
+-- load, this lower bound is n. If the loaded counter belongs to the seat's own worker, the seat's lower bound is equal
+-- to n already before the load.
 abbrev pub SeesRead : SeatView → ℕ → ℕ → SeatView → Type 0
 SeesRead v i n w =
     (w ≡ seat_view v.deals v.works v.number (slice_set v.reads i n) v.settles)
     × (slice_index v.reads i ≤ n) × (n ≤ most) × (v.works ≡ true → v.number ≡ i → n ≡ slice_index v.reads i)
 
 -- A seat (an access token for a progress board) changes from v to w by loading the value n of worker i's settled
--- counter. The seat's lower bound of worker i's settled counter is at most n before the seat loads n, and is n
--- afterwards. After a seat has loaded n from worker i's settled counter, its lower bound of worker i's read counter is
--- at least n. Before worker i's own seat loads the value n of worker i's settled counter, its lower bound of this
--- counter already is n.
+-- counter. Before a seat loads the value n of a settled counter, the seat's lower bound of the counter is at most n.
+-- After the load, this lower bound is n, and the seat's lower bound of the same worker's read counter is at least n. If
+-- the loaded counter belongs to the seat's own worker, the seat's lower bound is equal to n already before the load.
 abbrev pub SeesSettled : SeatView → ℕ → ℕ → SeatView → Type 0
 SeesSettled v i n w =
     (w ≡ seat_view v.deals v.works v.number (slice_set v.reads i (max (slice_index v.reads i) n))
     (slice_set v.settles i n))
     × (slice_index v.settles i ≤ n) × (n ≤ most) × (v.works ≡ true → v.number ≡ i → n ≡ slice_index v.settles i)
 
--- What the seat v (an access token for a progress board) stores about the values `words` of the board's counters is
--- true.
+-- The seat v (an access token for a progress board) stores only true statements about the values `words` of the board's
+-- counters.
 pub record Fits (k : ℕ) (words : List ℕ) (v : SeatView) : Type 0 where
   pub read_size : length v.reads ≡ k
   pub settle_size : length v.settles ≡ k

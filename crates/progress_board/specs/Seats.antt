@@ -1,5 +1,5 @@
--- Defines the properties of a progress board's seats (access tokens) that contracts use, as specified in
--- docs/PROFILE.md, "The progress board".
+-- Defines properties of a progress board's seats (access tokens). Contracts use these properties, which are specified
+-- in docs/PROFILE.md, "The progress board".
 use Rattle.std.specs.Prelude.{◌≡◌, ◌+◌, ◌<◌, ◌≤◌, ℕ, Bool, true, not, ◌&&◌, List, Option, Some, None, if◌then◌else◌, length, nat_lt, nat_le, replicate, slice_index, slice_index_or, sum}
 use Rattle.atomic_table.specs.Seated.{TableId}
 use Rattle.progress_board.specs.declared.rule.SeatView.{SeatView}
@@ -41,12 +41,12 @@ SeesItself s settled read = s.works ≡ true → (s.settled ≤ settled) × (s.r
 
 -- ---- errors
 
--- The error that adding n to the read counter of seat s returns, or `None` if the addition succeeds.
+-- The error of an addition of n to the read counter of seat s, or `None` if the addition succeeds.
 abbrev pub read_refusal : BoardSeat → ℕ → Option BoardFault
 read_refusal s n =
     if not s.works then Some faults.NotWorker else (if nat_lt most (s.read + n) then Some faults.BoardFull else None)
 
--- The error that adding n to the settled counter of seat s returns, or `None` if the addition succeeds.
+-- The error of an addition of n to the settled counter of seat s, or `None` if the addition succeeds.
 abbrev pub settled_refusal : BoardSeat → ℕ → Option BoardFault
 settled_refusal s n =
     if not s.works then Some faults.NotWorker
@@ -63,8 +63,9 @@ new_fault workers viewers = if are_seats workers viewers then faults.Memory else
 
 -- ---- new seats
 
--- The seat s (an access token) is the new seat number i for the table `table`, which has the counters of k workers. If
--- i is less than the number n of workers' seats, seat number i is worker i's, and otherwise a viewer's.
+-- The seat s (an access token for the table `table`) is new, and has index i in the list of the table's seats. The
+-- table `table` has the counters of k workers. If i is less than the number n of workers' seats, the seat belongs to
+-- worker i, and otherwise to a viewer.
 abbrev pub IsSeat : TableId → ℕ → ℕ → ℕ → BoardSeat → Type 0
 IsSeat table k n i s =
     (s.place.table_id ≡ table) × (s.works ≡ nat_lt i n) × (i < n → s.number ≡ i) × (s.read ≡ 0) × (s.settled ≡ 0)

@@ -58,7 +58,7 @@ bounds f = map (λ s. (s.lo, s.hi)) (spans f)
 abbrev pub is_window : FrontValue → ℕ → ℕ → Bool
 is_window f lo hi = list_any (λ s. (s.lo == lo) && (s.hi == hi)) (spans f)
 
--- Whether (lo, hi] is a window of front f that is done.
+-- Whether front f has the window (lo, hi], and this window is done.
 abbrev pub is_done : FrontValue → ℕ → ℕ → Bool
 is_done f lo hi = list_any (λ s. (s.lo == lo) && ((s.hi == hi) && s.done)) (spans f)
 
@@ -86,7 +86,8 @@ above_low_water [] = []
 above_low_water (w ∷ ws) = if w.done then above_low_water ws else w ∷ ws
 
 -- The number of maximal groups of adjacent done windows that begin in a list of windows. If `before` is true, a done
--- window directly precedes the list, and done windows at the start of the list continue its group.
+-- window directly precedes the list. Done windows at the start of the list then continue the group of the preceding
+-- window.
 abbrev pub run_count : Bool → List FrontWindow → ℕ
 run_count before [] = 0
 run_count before (w ∷ ws) = (if w.done then (if before then 0 else 1) else 0) + run_count w.done ws
@@ -101,7 +102,7 @@ range_count f = run_count false (above_low_water f.windows)
 abbrev pub no_windows : ℕ → FrontValue
 no_windows start = record { start = start; windows = [] }
 
--- Front f with a window from the end of f to `hi` appended. The new window is not done.
+-- Front f after adding a window that reaches from the end of f to `hi`. The new window is not done.
 abbrev pub appended : FrontValue → ℕ → FrontValue
 appended f hi = record f { windows = f.windows ++ record { hi = hi; done = false } ∷ [] }
 

@@ -35,7 +35,7 @@ is_window-within f lo hi front window = window-within f.start f.windows lo hi fr
 pub is_window-is_done : (f : FrontValue) (lo hi : ℕ) → is_done f lo hi ≡ true → is_window f lo hi ≡ true
 is_window-is_done f lo hi done = done-window f.start f.windows lo hi done
 
--- Whether (lo, hi] is a window of a front depends only on the bounds of the front's windows.
+-- The bounds of a front's windows determine whether (lo, hi] is a window of the front.
 pub is_window-bounds : (f : FrontValue) (lo hi : ℕ) → is_window f lo hi ≡ list_any (λ (b : ℕ × ℕ). (b.0 == lo) && (b.1 == hi)) (bounds f)
 is_window-bounds f lo hi = window-bounds f.start f.windows lo hi
 

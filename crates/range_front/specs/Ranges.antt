@@ -40,15 +40,15 @@ covers mark [] x = nat_le x mark
 covers mark (r ∷ rs) x = if nat_le x r.lo then nat_le x mark else covers r.hi rs x
 
 -- A range of done windows that ends at `hi` is joined with the next range if the next range begins at `hi`. If the
--- first range of the list begins at `hi`, `absorbed` gives this range's end and the later ranges, and otherwise `hi`
--- and all ranges.
+-- first range of the list begins at `hi`, `absorbed` gives the end of this range, and the later ranges. Otherwise,
+-- `absorbed` gives `hi` and all ranges of the list.
 abbrev pub absorbed : ℕ → List DoneRange → ℕ × List DoneRange
 absorbed hi [] = (hi, [])
 absorbed hi (r ∷ rs) = if r.lo == hi then (r.hi, rs) else (hi, r ∷ rs)
 
--- The ranges of done windows after adding the window (lo, hi] at the range r, which is the first range that ends at or
--- above `lo`. If the range r ends at `lo` or begins at `hi`, the window (lo, hi] extends r. If the range r neither ends
--- at `lo` nor begins at `hi`, the window (lo, hi] becomes a new range before r.
+-- The ranges of done windows after adding the window (lo, hi]. The range r is the first range that ends at or above
+-- `lo`. If the range r ends at `lo` or begins at `hi`, the window (lo, hi] extends r. If the range r neither ends at
+-- `lo` nor begins at `hi`, the window (lo, hi] becomes a new range before r.
 abbrev pub put_at : DoneRange → List DoneRange → ℕ → ℕ → List DoneRange
 put_at r rs lo hi =
     if r.hi == lo then record { lo = r.lo; hi = (absorbed hi rs).0 } ∷ (absorbed hi rs).1

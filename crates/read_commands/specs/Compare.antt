@@ -64,11 +64,11 @@ comparison_lines id c =
 abbrev pub compared_lines : DatabaseValue → DatabaseValue → RowValue → List ℕ
 compared_lines source target r = comparison_lines r.id (compared_at source target r.id)
 
--- The part of the last line of `compare` that gives the numbers of compared documents and leaves.
+-- In the last line of `compare`, the text with the numbers of compared documents and leaves.
 abbrev pub compared_part : Total → List ℕ
 compared_part t = codes "compared " ++ decimal t.documents ++ codes " documents " ++ decimal t.leaves ++ codes " leaves"
 
--- The part of the last line of `compare` that gives the numbers of differences.
+-- In the last line of `compare`, the text with the numbers of differences.
 abbrev pub found_part : Total → List ℕ
 found_part t =
     codes " missing " ++ decimal t.missing ++ codes " contradicting " ++ decimal t.contradicting ++ codes " differing "

@@ -48,7 +48,8 @@ rev_part word id rev = word ++ codes " " ++ quoted id ++ codes " " ++ rev
 abbrev pub parents_part : List ℕ → List ℕ → List ℕ
 parents_part known given = codes " known " ++ known ++ codes " given " ++ given
 
--- The line that `ledger` prints for a document that the write filter refused, with the document's newest revision.
+-- The line that `ledger` prints for a document that the write filter refused. The line has the document's id and newest
+-- revision.
 abbrev pub denied_line : List ℕ → List ℕ → List ℕ
 denied_line id rev = ended (rev_part (codes "denied") id rev)
 

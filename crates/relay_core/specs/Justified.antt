@@ -1,5 +1,5 @@
--- Defines when the relay may request that a server's log record a sequence. The history of a run is the list of the
--- run's exchanges (a request and its response), newest exchange first.
+-- Defines when the relay may request a server to record a sequence in the server's log. The history of a run is the
+-- list of the run's exchanges (a request and its response), newest exchange first.
 use Rattle.std.specs.Prelude.{ℕ, ◌≡◌, ◌+◌, ◌-◌, ◌^◌, ◌≤◌, ◌==◌, codes, Bool, true, false, ◌&&◌, ◌||◌, not, if◌then◌else◌, List, [], ◌∷◌, ◌++◌, Option, None, Some, min, bytes_eq}
 use Rattle.std.specs.List.{list_any}
 use Rattle.relay_core.specs.declared.messages.Side.{Side}
@@ -10,8 +10,8 @@ use Rattle.relay_core.specs.Leaves.{names, are_distinct, leaf_count, docs_where,
 -- ---- what settles a leaf
 
 -- Whether the target's response to a `_revs_diff` request shows that the target has the given leaf. A leaf is found if
--- the `_revs_diff` request names the leaf and distinct document ids, and the response does not name the leaf as
--- missing.
+-- the documents of the `_revs_diff` request have distinct ids, the request names the leaf, and the response does not
+-- name the leaf as missing.
 abbrev pub finds : RequestView → ResponseView → Text → Text → Bool
 finds (revs_diff docs) (missing_response missing) id leaf = are_distinct docs && (names docs id leaf && not (names missing id leaf))
 finds q r id leaf = false
@@ -39,7 +39,7 @@ is_rejected h id leaf = list_any (λ e. rejects e.request e.response id leaf) h
 abbrev pub AreSettled : List Exchange → List DocView → Type 0
 AreSettled h rows = (id leaf : Text) → names rows id leaf ≡ true → (is_found h id leaf || is_rejected h id leaf) ≡ true
 
--- The leaves of a page's rows that the target does not have.
+-- The leaves of a page's rows, without the leaves that a response shows at the target (`is_found`).
 abbrev pub not_found : List Exchange → List DocView → List DocView
 not_found h rows = docs_where (λ id leaf. not (is_found h id leaf)) rows
 
@@ -50,15 +50,15 @@ abbrev pub log_in : ResponseView → Option LogView
 log_in (log_response log) = Some log
 log_in r = None
 
--- After an exchange, the log that the given server (the source or the target) returned most recently. The parameter
--- `before` is the log that the server had last returned before the exchange.
+-- The log that the server `side` (the source or the target) returned last, up to and including an exchange. The
+-- parameter `before` is the log that the server had last returned before the exchange.
 abbrev pub log_after : Side → RequestView → ResponseView → Option LogView → Option LogView
 log_after Source (get_log Source) r before = log_in r
 log_after Target (get_log Target) r before = log_in r
 log_after side q r before = before
 
--- The log in the last response of the server `side` to a request for its log. The result is `None` if there is no such
--- response, or if the last such response has no log.
+-- The log in the last response of the server `side` to a request for its log. The result is `None` if the server never
+-- responded to a request for its log, or if its last response to such a request has no log.
 abbrev pub last_log : Side → List Exchange → Option LogView
 last_log side [] = None
 last_log side (e ∷ h) = log_after side e.request e.response (last_log side h)
@@ -81,8 +81,8 @@ seq_of (Some pair) = pair.1
 -- ---- progress of a run
 
 -- The relay has read consecutive pages of changes from the sequence `begin` to the sequence s. After each page, the
--- target had, or refused, each leaf of the page. The number n counts the leaves of these pages that the target refused,
--- and that no later response showed at the target.
+-- target had, or refused, each leaf of the page. The number n counts the refused leaves of the pages. A leaf is not
+-- counted if a later response showed that the target has the leaf.
 pub data Reached : Text → List Exchange → Text → ℕ → Type 0 where
   begun : {begin : Text} {h : List Exchange} {s : Text} {n : ℕ} → begin ≡ s → n ≡ 0 → Reached begin h s n
   paged : {begin : Text} {h : List Exchange} {s : Text} {n : ℕ} (before after rest : List Exchange) (since : Text) (wait : Option ℕ) (page : PageView) (m : ℕ) → h ≡ rest ++ (after ++ exchange_of (get_changes since wait) (page_response page) ∷ before) → Reached begin before since m → AreSettled after page.rows → page.last_seq ≡ s → n ≡ m + leaf_count (not_found after page.rows) → Reached begin h s n
@@ -94,8 +94,8 @@ log_of Target target source = target
 log_of Source target source = source
 
 -- The run processed the pages of changes up to the sequence s. The first page begins at the sequence of the newest
--- entry that the logs `target` and `source` share. After these pages, the run read the replication logs of the source
--- and the target.
+-- entry that the logs `target` and `source` share. After processing the pages up to s, the run read the replication
+-- logs of the source and the target.
 pub record AreReady (h : List Exchange) (target source : LogView) (s : Text) (failures : ℕ) : Type 0 where
   pub before : List Exchange
   pub later : List Exchange
@@ -106,9 +106,9 @@ pub record AreReady (h : List Exchange) (target source : LogView) (s : Text) (fa
   pub reached : Reached (seq_of (newest_common target.history source.history)) before s rejected
   pub counted : min rejected (2 ^ 64 - 1) ≤ failures
 
--- The condition under which the relay may request that a server's log record the sequence s: the relay has processed
--- the pages of changes up to s. The history of a written log is the new entry, followed by the history of the log that
--- was last read.
+-- The relay has processed the pages of changes up to the sequence s. Before the relay has processed these pages, it
+-- must not request a server to record s in the server's log. The history of a written log is the new entry, followed by
+-- the history of the log that was last read.
 pub record IsReady (h : List Exchange) (side : Side) (log : LogView) (s : Text) (failures : ℕ) : Type 0 where
   pub target : LogView
   pub source : LogView
@@ -116,20 +116,21 @@ pub record IsReady (h : List Exchange) (side : Side) (log : LogView) (s : Text) 
   pub own : log ≡ log_of side target source
 
 -- In the exchange of the request q and the response r, the target stored its log and recorded the sequence s. If the
--- request q is `tell`, which prints a message, the statement `before` about the earlier exchanges is true instead.
+-- request q is `tell`, which prints a message, the exchange is ignored: the statement `before` about the earlier
+-- exchanges must be true.
 abbrev pub IsStoring : RequestView → ResponseView → Text → Type 0 → Type 0
 IsStoring (put_log Target log checkpoint) stored_response s before = checkpoint.seq ≡ s
 IsStoring (tell notice) r s before = before
 IsStoring q r s before = ⊥
 
--- In the last exchange, apart from notices (requests `tell`, which print messages), the target stored its log with the
--- recorded sequence s.
+-- In the last exchange that is not a notice, the target stored its log with the recorded sequence s. A notice is a
+-- request `tell`, which prints a message.
 abbrev pub IsStored : List Exchange → Text → Type 0
 IsStored [] s = ⊥
 IsStored (e ∷ h) s = IsStoring e.request e.response s (IsStored h s)
 
--- The relay requests that the source's log record a sequence only if the target has just stored its log with this
--- sequence (`IsStored`).
+-- The relay requests the source to record a sequence in the source's log only if the target has just stored its log
+-- with this sequence (`IsStored`).
 abbrev pub IsInOrder : List Exchange → Side → Text → Type 0
 IsInOrder h Target s = Unit {0}
 IsInOrder h Source s = IsStored h s

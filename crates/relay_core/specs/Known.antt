@@ -42,14 +42,14 @@ asked_by run (stages.Done fault) = done (option_map fault_view fault) run.counts
 
 -- The next request of a run, given the phase (the run's state between two requests). If a notice (a message to the
 -- user) is not yet printed, the next request prints the first such notice. If all notices are printed, the phase's
--- field `stage`, which names the response that the run waits for, determines the next request (`asked_by`).
+-- field `stage` determines the next request (`asked_by`). The field `stage` names the response that the run waits for.
 abbrev pub asked_of : Phase → RequestView
 asked_of phase = option_map_or (λ n. tell (notice_view n)) (slice_get phase.notices.items phase.told) (asked_by phase.run phase.stage)
 
 -- ---- what is known
 
--- The relay has processed the pages of changes from sequence `begin` to sequence `since`. The count `failures` includes
--- each leaf of these pages that the target refused and lacks, or is at least 2^64 - 1.
+-- The relay has processed the pages of changes from sequence `begin` to sequence `since`. The count `failures` is at
+-- least 2^64 - 1, or includes each leaf that the target refused and lacks, among the leaves of the processed pages.
 pub record IsReachedFrom (h : List Exchange) (begin since : Text) (failures : ℕ) : Type 0 where
   pub rejected : ℕ
   pub reached : Reached begin h since rejected
@@ -66,9 +66,9 @@ pub record IsRead (h : List Exchange) (begin since : Text) (failures : ℕ) (tar
   pub target_is : last_log Target later ≡ Some target
   pub reached : IsReachedFrom before begin since failures
 
--- The source returned a page of changes, and the transfer of the page is in progress. The documents `missing` have
--- exactly those leaves of the page that no later response has shown at the target. The target refused each leaf that
--- the error rows `rows` name.
+-- The source returned a page of changes, and the transfer of the page is in progress. A leaf of the page is in the
+-- documents `missing` exactly if no later response has shown that the target has the leaf. The target refused each leaf
+-- that the error rows `rows` name.
 pub record IsOpen (h : List Exchange) (begin since last : Text) (failures : ℕ) (missing : List DocView) (rows : List RowErrorView) : Type 0 where
   pub before : List Exchange
   pub after : List Exchange

@@ -8,8 +8,8 @@ use Rattle.json.specs.Print.{print}
 use Rattle.relay_core.specs.declared.messages.Counts.{Counts}
 use Rattle.relay_core.specs.Messages.{Text, EntryView, LogView, CheckpointView}
 
--- The path of the replication logs, which both servers use. The path ends with the MD5 of six texts, which are
--- separated by line feeds.
+-- The path of the replication log. The path is the same at both servers. The path ends with the MD5 of six texts, which
+-- are separated by line feeds.
 abbrev pub log_path : Text → Text → Text → Text → Text → Text → Text
 log_path source target filter query choice salt =
     codes "/_local/sandermauve-" ++ encode_lower (md5 (source ++ 10 ∷ (target ++ 10 ∷ (filter ++ 10 ∷ (query ++ 10 ∷ (choice ++ 10 ∷ salt))))))
@@ -30,7 +30,7 @@ position_tokens session seq =
 
 -- ---- the history
 
--- The entry of a log's history for a session that records checkpoint c.
+-- An entry of a log's history, with the session id `session` and the checkpoint c.
 abbrev pub entry_tokens : Text → CheckpointView → List Token
 entry_tokens session c =
     begin_object ∷ key (codes "session_id") ∷ string session

@@ -45,7 +45,8 @@ fault_name (refused id side status words) = codes "refused"
 fault_name (unaccounted id rev error count) = codes "unaccounted"
 fault_name log_changed = codes "log_changed"
 
--- The text `, ERROR: REASON` for the error of a `_bulk_docs` row, or the empty text if no row reports an error.
+-- The text for the error of a `_bulk_docs` row, in the form `, ERROR: REASON`. The text is empty if no row reports an
+-- error.
 abbrev pub row_error_text : Option (Text × Text) → Text
 row_error_text None = []
 row_error_text (Some e) = codes ", " ++ e.0 ++ codes ": " ++ e.1

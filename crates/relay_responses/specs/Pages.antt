@@ -38,8 +38,8 @@ abbrev pub add_revs : List Text → List Text → List Text
 add_revs revs [] = revs
 add_revs revs (r ∷ rs) = add_revs (if list_any (bytes_eq r) revs then revs else revs ++ r ∷ []) rs
 
--- The given documents, with the leaves of a row added to the document with the row's id. If no document has the row's
--- id, a document with the id and leaves of the row is added at the end.
+-- A list of documents, after the leaves of a row are added to the document that has the row's id. If no document has
+-- the row's id, a document with the id and leaves of the row is added at the end.
 abbrev pub add_row : List DocView → DocView → List DocView
 add_row [] row = (row.0, add_revs [] row.1) ∷ []
 add_row (d ∷ ds) row = if bytes_eq row.0 d.0 then (d.0, add_revs d.1 row.1) ∷ ds else d ∷ add_row ds row

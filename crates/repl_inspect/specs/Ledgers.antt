@@ -9,8 +9,8 @@ use Rattle.repl_inspect.specs.declared.ledger.LedgerRow.TheVariants as rows
 
 -- The row that explains why a document is in a session's ledger. If the filter refused the document, the row has the
 -- document's newest revision. If the document's ancestry contradicts the tree, the row names the newest revision with
--- different parents in the tree and in the ancestry. The row also names this revision's parent in the tree and its
--- parent in the ancestry.
+-- different parents in the tree and in the ancestry. For a contradiction, the row also names both parents of the
+-- revision: the parent in the tree, and the parent in the ancestry.
 abbrev pub Says : RefusedValue → LedgerRow → Type 0
 Says x (rows.Denied rev) = (x.reason ≡ reasons.Filtered) × (head_of x.doc.ancestry ≡ Some rev)
 Says x (rows.Contradicted rev known given) = x.reason ≡ reasons.Contradicting rev known given

@@ -26,7 +26,7 @@ recorded_of log s = option_map (λ e. e.recorded) (entry_for log s)
 
 -- ---- the effect of `put`
 
--- The log after entry e has replaced the entry of e's session.
+-- The log `log`, with the entry e instead of the log's entry for the session of e.
 abbrev pub replaced : List EntryValue → EntryValue → List EntryValue
 replaced log e = map (λ x. if is_of e.session x then e else x) log
 
@@ -56,7 +56,8 @@ ChangesOnly old new e = (s : SessionId) → entry_for new s ≡ (if is_of s e th
 abbrev pub shared : List EntryValue → List EntryValue → Option EntryValue
 shared source target = find (λ t. holds source t.session) target
 
--- The session of the target's entry t, and the lesser of the sequences that t and the source's entry s record.
+-- The checkpoint of the target's entry t and the source's entry s: the session of t, and the lesser of the recorded
+-- sequences of t and s.
 abbrev pub lesser_of : EntryValue → EntryValue → SessionId × ℕ
 lesser_of t s = (t.session, min s.recorded t.recorded)
 

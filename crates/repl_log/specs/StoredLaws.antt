@@ -68,8 +68,8 @@ module _ {X V : Type 0} (value : X → V) (session : V → SessionId) where
 
   -- ---- lookups
 
-  -- The value `value x` of an optional item x, if the item exists and its value passes the test q, and `None`
-  -- otherwise.
+  -- The value of an optional item, or `None`. The result is `None` if the item is absent, or if its value does not pass
+  -- the test q.
   abbrev pub chosen : (V → Bool) → Option X → Option V
   chosen q None = None
   chosen q (Some x) = if q (value x) then Some (value x) else None
@@ -99,8 +99,7 @@ module _ {X V : Type 0} (value : X → V) (session : V → SessionId) where
   chosen-always None = refl
   chosen-always (Some x) = refl
 
-  -- Searching the values of a table, newest first, for session s finds the value that a lookup of s in the table
-  -- returns.
+  -- A lookup of session s in a table returns the same value as a search for s in the table's values, newest first.
   pub find-lookup : (s : SessionId) (es : List (SessionId × X)) → IsKeyed own es → EachSessionOnce es → find (named s) (newest_first value es) ≡ option_map value (lookup (at_session s) es)
   find-lookup s es keyed once =
       find-chosen (λ _. true) (named s) s (λ v. sym (and-true (named s v))) es keyed once ∙ chosen-always (lookup (at_session s) es)

@@ -21,7 +21,7 @@ id_digits n = encode_lower (to_be_bytes w128 n)
 -- ---- replication ids
 
 -- The text of a selection in a replication id, which is `-` and the lower-case hexadecimal digits of the JSON array of
--- the selected ids. The text of the selection of all documents is empty.
+-- the selected ids. If a replication selects all documents, the text of the selection is empty.
 abbrev pub choice_digits : Choice → List ℕ
 choice_digits None = []
 choice_digits (Some ids) = 45 ∷ encode_lower (ids_text ids)
@@ -86,8 +86,8 @@ abbrev pub listed : Bool → List EntryValue → List ℕ
 listed later [] = []
 listed later (e ∷ es) = comma_if later ++ (compact_text (entry_json e) ++ listed true es)
 
--- A log as a JSON object, given the text of its replication id, its history, and the session and recorded sequence of
--- its newest entry.
+-- A log as a JSON object, given four values: the text of the replication id, the history, and the session and recorded
+-- sequence of the newest entry.
 abbrev pub log_with : List ℕ → Items → List ℕ → ℕ → Data
 log_with name history session_id recorded =
     object (members

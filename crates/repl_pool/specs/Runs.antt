@@ -45,7 +45,7 @@ abbrev pub unfinished_at : Result ℕ TargetFault → PoolFault
 unfinished_at (Ok low_water) = faults.Refused (refusals.Unfinished low_water)
 unfinished_at (Err why) = faults.Refused why
 
--- A run did not conclude its session, but only recorded the session's low water. A run only records its session if an
+-- A run did not conclude its session, but only recorded the session's low water. A run concludes its session unless an
 -- allocation failed, a worker failed or stopped, a sent parcel was not received, or concluding failed.
 pub data IsRecorded (plan : Plan) (fault : Option PoolFault) (complete : Bool) (before after : PeerValue) : PoolFault
     → Type 0 where
@@ -90,8 +90,8 @@ pub data ClosesRun (plan : Plan) (fault : Option PoolFault) (complete : Bool)
 
 -- How the end of a replication by the pool changes both peers, and what the replication's workers have done before.
 -- Only calls for the run's session have changed the target from the state `given` to the state `before`. The windows of
--- the run's session are pages of the source's feed. A worker stopped early only at a stage at which the caller's `Gate`
--- may stop a worker, or because a call of the worker failed. If no worker stopped and all sent parcels were received,
+-- the run's session are pages of the source's feed. A worker stopped early only if a call of the worker failed, or if
+-- the caller's `Gate` may stop workers at the worker's stage. If no worker stopped and all sent parcels were received,
 -- the session has read as many documents as the fetchers counted.
 pub record EndsRun {F : Type 0} (refuses : F → Document → Bool) (may_fill : Type 0) (may_stop : Place → Type 0)
     (plan : Plan) (source : PeerValue) (given : F × PeerValue) (counts : List ℕ) (source' after : PeerValue)
@@ -166,8 +166,8 @@ pub record EndsWell (source target target' : PeerValue) (plan : Plan) (n : ℕ) 
   pub copied : IsEmpty target → report.counts.failures ≡ 0 → SameDocuments plan.chosen source.db target'.db
   pub sum : n ≡ report.counts.read
 
--- The filter is unchanged. Either the peer is unchanged, or the plan's session has begun at the peer, and calls for
--- this session (`IsGrown`) have changed the peer further.
+-- The filter is unchanged. If the peer has changed, the plan's session has begun at the peer, and afterwards only calls
+-- for this session (`IsGrown`) have changed the peer.
 abbrev pub LeftPeer : {F : Type 0} → (F → Document → Bool) → PeerValue → F × PeerValue → Plan → F × PeerValue → Type 0
 LeftPeer refuses source given plan now = (now.0 ≡ given.0) × IsLeft (refuses given.0) source given.1 plan now.1
 
@@ -184,8 +184,8 @@ pub record RunsOn {F : Type 0} (refuses : F → Document → Bool) (may_fill : T
   -- At the source, a run changes only the outgoing logs.
   pub filter : source'.0 ≡ source.0
   pub log : source'.1 ≡ record source.1 { outgoing = source'.1.outgoing }
-  -- Either the run leaves its target unchanged, or the run has changed its target only by beginning the session and by
-  -- calls with messages of the source.
+  -- A run changes its target only by beginning the session, and by calls for this session with messages from the
+  -- source.
   pub grown : LeftPeer refuses source.1 target plan target'
   -- A run's target keeps all sessions and revisions, as `IsLaterPeer` says. For every selection and all backups of the
   -- source, the two peers are consistent after the run if they were consistent before.

@@ -13,7 +13,7 @@ use Rattle.repl_peer.specs.logs.Checkpoint.{rep_between, checkpoint_between}
 use Rattle.repl_target.specs.declared.auditing.found.Audit.{Audit}
 use Rattle.repl_target.specs.declared.auditing.found.Audit.TheVariants.{Clean, Hole}
 
--- The first leaf of the source's selected feed at or below sequence n that the target does not cover.
+-- The first leaf that the target does not cover, among the leaves of the source's selected feed up to sequence n.
 abbrev pub hole_under : PeerValue → PeerValue → Choice → ℕ → Option Leaf
 hole_under source target chosen n = first_uncovered target (chosen_feed chosen source.db 0 n)
 
@@ -23,7 +23,8 @@ abbrev pub hole_at : PeerValue → PeerValue → Choice → Option (SessionId ×
 hole_at source target chosen None = None
 hole_at source target chosen (Some checkpoint) = hole_under source target chosen checkpoint.1
 
--- The first leaf of the source's selected feed, at or below the common checkpoint, that the target does not cover.
+-- The first leaf that the target does not cover, among the leaves of the source's selected feed up to the common
+-- checkpoint.
 abbrev pub hole_between : PeerValue → PeerValue → RepId → Option Leaf
 hole_between source target rep = hole_at source target rep.chosen (checkpoint_between source target rep)
 

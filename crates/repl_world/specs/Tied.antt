@@ -21,7 +21,7 @@ use Rattle.repl_peer.specs.declared.fault.TargetFault.{TargetFault}
 use Rattle.repl_world.specs.Bags.{IsBag}
 use Rattle.repl_world.specs.Worlds.{WorldValue, rep_of}
 
--- The invariants that the Rust types of the source's database, of the target and of the messages in transit guarantee.
+-- The source's database, the target and the messages in transit have the invariants that their Rust types guarantee.
 pub record IsWorld (refuses : Document → Bool) (w : WorldValue) : Type 0 where
   pub source : LawfulDatabase w.source.db
   pub target : Lawful refuses w.target
@@ -46,13 +46,13 @@ pub record OwnParcel (w : WorldValue) (place : ℕ) (p : ParcelValue) : Type 0 w
 pub record Tied (w : WorldValue) : Type 0 where
   -- The target is consistent with the source and with each backup of the source.
   pub peers : IsTiedWith w.backups w.source w.target w.chosen
-  -- The life (a number that each restore raises) of each window or log in transit is at most the life of the source's
-  -- database.
+  -- Each window and each log in transit has a life (a number that each restore raises). This life is at most the life
+  -- of the source's database.
   pub window_lives : (x : WindowValue) → Among x w.bag.windows → x.life ≤ w.source.db.life
   pub log_lives : (g : ℕ × List EntryValue) → Among g w.bag.logs → g.0 ≤ w.source.db.life
-  -- If a window in transit has the current life of the source's database, the window is consistent with this database.
-  -- If the window of a request or parcel has the current life of the source's database, the request or parcel is
-  -- consistent with the window.
+  -- If a window in transit has the same life as the source's database, the window is consistent with this database. If
+  -- a window in transit has the same life as the source's database, each request and parcel of the window is consistent
+  -- with the window.
   pub windows : (x : WindowValue) → Among x w.bag.windows → x.life ≡ w.source.db.life
       → IsTiedWindow w.source.db w.chosen x
   pub asked : (a : ℕ × AskedValue) → Among a w.bag.asked → OwnAsked w a.0 a.1

@@ -1,4 +1,4 @@
--- Defines an encoding of two peers, the messages between them and the source's backups as data.
+-- Defines how two peers, the messages between them and the source's backups are encoded as data.
 use Rattle.std.specs.Prelude.{ℕ, List, refl}
 use Rattle.std.specs.Coded.{Coded, code_by, coded×, coded_ℕ, coded_list}
 use Rattle.doc_json.specs.Chosen.{Choice}

@@ -89,8 +89,8 @@ settles refuses w session None = w
 settles refuses w session (Some p) = record w { target = after_settle refuses w.target session p.1 }
 
 -- The effect of a `Settle` step that settles at most n documents of a parcel, and then runs out of memory. The settled
--- documents are the first documents of the parcel. A failed `Settle` step settles n documents, or fewer if it would
--- settle fewer documents with enough memory.
+-- documents are the first documents of the parcel. A failed `Settle` step settles the lesser of two numbers of
+-- documents: n, and the number that the step would settle with enough memory.
 abbrev pub stops : (Document → Bool) → WorldValue → SessionId → ℕ → Option (ℕ × ParcelValue) → WorldValue
 stops refuses w session n None = w
 stops refuses w session n (Some p) = record w { target = after_some refuses w.target session p.1 n }
@@ -120,16 +120,16 @@ puts w (Some e) = record w { source = after_put_entry w.source (rep_of w) e }
 abbrev pub crashed : WorldValue → WorldValue
 crashed w = record w { bag = empty_bag }
 
--- The source's current log of the replication, with the life (a number that each restore raises) of the source's
--- database when the log is read.
+-- The source's current log of the replication, with the current life (a number that each restore raises) of the
+-- source's database.
 abbrev pub log_of_source : WorldValue → ℕ × List EntryValue
 log_of_source w = (w.source.db.life, source_log w.source (rep_of w))
 
 abbrev pub reads_log : WorldValue → WorldValue
 reads_log w = record w { bag = with_log w.bag (log_of_source w) }
 
--- The common checkpoint of the source's log `log`, which is a message in transit, and of the target's log, if there is
--- one.
+-- The common checkpoint, if it exists, of the source's log `log` and the target's log. The log `log` is a message in
+-- transit.
 abbrev pub agreed : WorldValue → List EntryValue → Option (SessionId × ℕ)
 agreed w log = common log (target_log w.target (rep_of w))
 
@@ -181,22 +181,22 @@ run refuses w (step ∷ steps) = run refuses (happens refuses w step) steps
 
 -- ---- failed allocations
 
--- The state `now` after an allocation failed in a `Settle` step. The failed `Settle` step either has no effect, or has
--- settled some of the parcel's first documents.
+-- A `Settle` step that fails because an allocation fails leads to the state `now`. The failed `Settle` step either has
+-- no effect, or has settled some of the parcel's first documents.
 abbrev pub IsStopped : (Document → Bool) → WorldValue → SessionId → Option (ℕ × ParcelValue) → WorldValue → Type 0
 IsStopped refuses w session parcel now =
     (now ≡ w)
     ⊎ (n : ℕ) × IfSome parcel (λ (p : ℕ × ParcelValue). n ≤ most_settled refuses w.target session p.1)
     × (now ≡ stops refuses w session n parcel)
 
--- The state `now` after an allocation failed in a step. If an allocation fails in a step other than `Settle`, the step
--- has no effect.
+-- A step that fails because an allocation fails leads to the state `now`. If an allocation fails in a step other than
+-- `Settle`, the step has no effect.
 abbrev pub CutShort : (Document → Bool) → WorldValue → Step → WorldValue → Type 0
 CutShort refuses w (Settle session parcel) now = IsStopped refuses w session (slice_get w.bag.parcels parcel) now
 CutShort refuses w step now = now ≡ w
 
--- The state `now` after an allocation failed in one of the steps of a list. The steps before the failed step have their
--- complete effects, and the failed step has an effect that `CutShort` allows.
+-- An allocation fails in one of the steps of a list, and `now` is the state afterwards. The steps before the failed
+-- step have their complete effects, and the failed step has an effect that `CutShort` allows.
 abbrev pub StoppedIn : (Document → Bool) → WorldValue → List Step → WorldValue → Type 0
 StoppedIn refuses w steps now =
     (k : ℕ) × (step : Step) × (slice_get steps k ≡ Some step) × CutShort refuses (run refuses w (take k steps)) step now

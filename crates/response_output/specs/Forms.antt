@@ -53,7 +53,7 @@ before_rev Docs = codes ",\"rev\":"
 before_rev Bodies = codes ",\"rev\":"
 
 -- Whether a request body in the output format groups all revisions of a document in one list. If request bodies have
--- such lists, the formatter closes a full body only before the next document, never within a document's list.
+-- lists of a document's revisions, the formatter closes a full body only before the next document, never within a list.
 abbrev pub has_lists : Form → Bool
 has_lists Loads = false
 has_lists Asked = false

@@ -93,7 +93,7 @@ pub record IsLateAt (at : ℕ) (s : State) (w : Words) (part bytes : List ℕ) (
   pub written : Appends held held' text
   pub at_is : at ≡ (after s (front ++ last ∷ [])).taken
 
--- What was written if an error occurred while the given bytes of a response were read.
+-- The output of a conversion, if an error stops the conversion while it reads the bytes `bytes` of a response.
 abbrev pub Breaks : AnswerFault → State → Words → List ℕ → List ℕ → Option (List ℕ) → Option (List ℕ) → Type 0
 Breaks (Refused why at) s w part bytes held held' = ⊥
 Breaks (LateMember at) s w part bytes held held' = IsLateAt at s w part bytes held held'
@@ -102,9 +102,10 @@ Breaks (Device fault) s w part bytes held held' = Begins fault s w part bytes he
 -- ---- the stored parser
 
 -- The program's parser has the state r, and a parser that stores each byte would have the state s. The text `part`, the
--- beginning of the next item, was written already. The program's parser does not store all bytes of a long document. In
--- a long document whose beginning was written, `front` is the output for the first `at` bytes that the program's parser
--- has stored for the document. After the program's parser has rejected a byte, `front` and `at` may have any values.
+-- beginning of the next item, was written already. The program's parser may omit bytes of a long document from its
+-- stored text. If the beginning of a long document was written, `front` is the output for the stored part of this
+-- beginning, and `at` is the length of the stored part. After the program's parser has rejected a byte, `front` and
+-- `at` may have any values.
 pub data Tracks (s r : State) (front : List ℕ) (at : ℕ) (w : Words) (part : List ℕ) : Type 0 where
   tracks_whole : Like s r → front ≡ [] → part ≡ [] → Tracks s r front at w part
   tracks_long : (cut : LongCut) (name : Name) → Mirrors cut name s r → front ≡ cut.front → at ≡ length cut.stored → (length front == 0) ≡ false
@@ -145,10 +146,10 @@ EndsAnswers s w held held' (Err (Refused why at)) =
 EndsAnswers s w held held' (Err (LateMember at)) = ⊥
 EndsAnswers s w held held' (Err (Device fault)) = EndsInPart fault (last_text w) held held' × (end_of s.place ≡ Ok tt)
 
--- What a conversion of CouchDB's responses or of a script's output writes when the parser reaches the end of the input,
--- and the conversion's result. If the input is a script's output without a line end after the last line, a line end is
--- first added to the input. The text `part`, the beginning of an item, was written before the conversion reached the
--- input's end.
+-- What a conversion writes, and which result it has, when the parser reaches the end of the input. The input has
+-- CouchDB's responses or a script's output. If the input is a script's output without a line end after the last line, a
+-- line end is first added to the input. The text `part`, the beginning of an item, was written before the conversion
+-- reached the input's end.
 abbrev pub Finishes : State → Words → List ℕ → Option (List ℕ) → Option (List ℕ) → Result ℕ AnswerFault → Type 0
 Finishes s w part held held' (Ok passed) =
     (text : List ℕ) × Appends held held' text × (part ++ text ≡ all_text w (pieces s (last_end s)))
@@ -165,8 +166,8 @@ Finishes s w part held held' (Err (Device fault)) =
 -- ---- everything from a reader
 
 -- The list `read`, the input of a conversion, has all remaining bytes of the reader. If the reader's bytes are a
--- script's output without a line end after the last line, `read` ends with an added line end. The parser does not
--- reject a byte of `read`.
+-- script's output without a line end after the last line, `read` ends with an added line end. The parser accepts every
+-- byte of `read`.
 abbrev pub IsAll : Wanted → Option (List ℕ) → List ℕ → Type 0
 IsAll wanted left read =
     (input : List ℕ) × Gives left input × (read ≡ whole (start wanted) input) × (is_refused (after (start wanted) input).place ≡ false)
@@ -183,8 +184,8 @@ IsFront wanted left read =
     (rest : List ℕ) × Gives left (read ++ rest) × (is_refused (after (start wanted) read).place ≡ true)
 
 -- The input consists of complete responses, `passed` documents were skipped, and the items in the input are written.
--- The reader's remaining bytes are `left`. The writer had accepted the bytes `held` before the input was converted, and
--- has accepted the bytes `held'` after the conversion of the input.
+-- The list `left` has the bytes that the reader had not returned before the conversion. The writer had accepted the
+-- bytes `held` before the input was converted, and has accepted the bytes `held'` after the conversion of the input.
 abbrev pub Answered : Wanted → Words → Option (List ℕ) → Option (List ℕ) → Option (List ℕ) → ℕ → Type 0
 Answered wanted w left held held' passed =
     (read : List ℕ) × IsAll wanted left read × Appends held held' (all_text w (pieces (start wanted) read))
@@ -213,10 +214,11 @@ abbrev pub Converts : Result ℕ AnswerFault → Wanted → Words → Option (Li
 Converts (Ok passed) wanted w left held held' = Answered wanted w left held held' passed
 Converts (Err fault) wanted w left held held' = Stopped wanted w left held held' fault
 
--- What a conversion guarantees if its input consists of CouchDB's responses or a script's output, and has exactly the
--- items in the list `all`. The conversion of valid responses, or of a script's output, never fails with the error
--- `Refused`. If the conversion succeeds, it has written all items. After the error `LateMember`, the output has the
--- items of a prefix of `all`, and then `begun`, a text for a part of the next item.
+-- What a conversion guarantees if its input consists of CouchDB's responses or of a script's output. The list `all` has
+-- exactly the items of the input. The conversion of valid responses, or of a script's output, never fails with the
+-- error `Refused`. If the conversion succeeds, it has written all items. After the error `LateMember`, the output has
+-- the items of a prefix of `all`, followed by the text `begun`. The text `begun` was written for a part of the next
+-- item.
 abbrev pub ReadsAnswers : Words → List Piece → Option (List ℕ) → Option (List ℕ) → Result ℕ AnswerFault → Type 0
 ReadsAnswers w all held held' (Ok passed) = Appends held held' (all_text w all)
 ReadsAnswers w all held held' (Err (Refused why at)) = ⊥

@@ -47,9 +47,9 @@ id_kept w id = record w { id = id; listed = false }
 abbrev pub document_text : Words → List ℕ → List ℕ
 document_text w text = before w ++ (text ++ behind w)
 
--- The text that is written for a part of a document: the text `front` without its first `told` bytes, which were
--- written earlier, and then the given bytes. If `told` is 0, the value of `part_text` begins with the text that the
--- formatter writes before a document.
+-- The text that is written for a part of a document: the bytes of `front` that were not written earlier, and then the
+-- bytes `bytes`. The first `told` bytes of `front` were written earlier. If `told` is 0, the value of `part_text`
+-- begins with the text that the formatter writes before a document.
 abbrev pub part_text : Words → List ℕ → ℕ → List ℕ → List ℕ
 part_text w front told bytes = cond (told == 0) (before w) [] ++ (drop told front ++ bytes)
 
@@ -61,8 +61,8 @@ rest_text w text told = drop told text ++ behind w
 abbrev pub with_document : Words → List ℕ → Words
 with_document w text = counted_up (id_kept w (id_of text))
 
--- Whether the formatter must close the request body before the next document, because the body is full and has lists of
--- revisions (`has_lists`).
+-- Whether the formatter must close the request body before the next document. The formatter must close a body that is
+-- full and has lists of revisions (`has_lists`).
 abbrev pub is_over : Words → Bool
 is_over w = has_lists w.form && (nat_lt 0 w.count && w.count == w.size)
 

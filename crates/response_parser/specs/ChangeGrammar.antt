@@ -21,8 +21,8 @@ pub data AreRevs : List ℕ → List Piece → Type 0 where
 abbrev pub is_word_byte : ℕ → Bool
 is_word_byte b = not (b == 10 || b == 32)
 
--- The lines of a script's output, each with its line end, and the document ids and revisions in the `change` lines, in
--- order.
+-- The text of a script's output, which consists of lines with line ends, and the text's items. The items are the
+-- document ids and the revisions in the `change` lines, in the order of the lines.
 pub data AreChanges : List ℕ → List Piece → Type 0 where
   none : AreChanges [] []
   empty : {b : ℕ} {t : List ℕ} {ps : List Piece} → is_space b ≡ true → AreChanges t ps → AreChanges (b ∷ t) ps

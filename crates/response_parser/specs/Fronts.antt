@@ -11,13 +11,14 @@ use Rattle.response_parser.specs.Values.{document_found}
 use Rattle.response_parser.specs.declared.place.Wanted.{Wanted}
 use Rattle.response_parser.specs.declared.place.Wanted.TheVariants.{Documents, Enveloped, Bodies, Unfolded, Leaves, Changes}
 
--- The minimum number of bytes of a document that the parser stores before it passes on string bytes without storing
--- them.
+-- A minimum number of stored bytes. The parser stores at least this number of bytes of a document before it passes on
+-- string bytes without storing them.
 abbrev pub long : ℕ
 long = 262144
 
--- The text s is the beginning of a document, after which string bytes may follow that the parser does not store. If a
--- document begins with the text s and is not late (`IsLate`), the document's output begins with the text S.
+-- The text s is the beginning of a document. After s, the parser may pass on string bytes without storing them. The
+-- text S is the output for s. If a document begins with s and is not late (`IsLate`), the document's output begins with
+-- S.
 abbrev pub IsStart : Wanted → List ℕ → List ℕ → Type 0
 IsStart Documents s S = ⊥
 IsStart Enveloped s S = IsPutStart s S
@@ -26,9 +27,10 @@ IsStart Unfolded s S = IsTakeStart s S
 IsStart Leaves s S = ⊥
 IsStart Changes s S = ⊥
 
--- The beginning of a document of which the parser may not have stored some string bytes. The text `full` has all bytes
--- of a document's beginning, and the text `stored` has only the bytes that the parser stored. The text `written` is the
--- output for `full`, and `front` is the output for `stored`.
+-- The beginning of a document. The parser may have omitted string bytes of the document's beginning from its stored
+-- text. The text `full` has all bytes of a document's beginning, and the text `stored` has only the bytes that the
+-- parser stored. The output for the document's beginning is `written` if it is computed from `full`, and `front` if it
+-- is computed from `stored`.
 pub record Cut : Type 0 where
   pub full : List ℕ
   pub stored : List ℕ
@@ -38,8 +40,8 @@ pub record Cut : Type 0 where
 abbrev pub IsCut : Wanted → Cut → Type 0
 IsCut wanted c = Front (IsStart wanted) c.full c.stored c.written c.front
 
--- The text of the parser's state s begins with `cut.full`, the first bytes of a document, of which there are at least
--- 262,144 (`long`). The text `written` is the output for `cut.full`.
+-- The text of the parser's state s begins with `cut.full`, the beginning of a document. The text `cut.full` has at
+-- least 262,144 bytes (`long`). The text `written` is the output for `cut.full`.
 pub record HasWritten (s : State) (written : List ℕ) : Type 0 where
   pub cut : Cut
   pub behind : List ℕ
@@ -48,11 +50,11 @@ pub record HasWritten (s : State) (written : List ℕ) : Type 0 where
   pub length_is : long ≤ length cut.full
   pub is : written ≡ cut.written
 
--- In the parser's state s, the parser has just read the end of a document. The text `written` is the output for
--- `cut.full`, the first bytes of the document, of which there are at least 262,144 (`long`). The output for the
--- document's stored bytes does not begin with `cut.front`, the output for the stored bytes of `cut.full`. A document is
--- late only if a member `_id`, `_rev`, `_revisions` or `_deleted`, which an envelope stores outside of `whole`, follows
--- `cut.full`.
+-- In the parser's state s, the parser has just read the end of a document. The text `cut.full` is the beginning of the
+-- document, and has at least 262,144 bytes (`long`). The text `written` is the output for `cut.full`. The output for
+-- `cut.stored` and the document's later bytes does not begin with `cut.front`, the output for `cut.stored` alone. A
+-- document is late only if a member `_id`, `_rev`, `_revisions` or `_deleted` follows the beginning `cut.full`. An
+-- envelope stores these members outside of `whole`.
 pub record IsLate (s : State) (written : List ℕ) : Type 0 where
   pub cut : Cut
   pub rest : List ℕ

@@ -19,17 +19,17 @@ pub record IsValue (t u : List ℕ) : Type 0 where
   pub first : is_space (slice_index t 0) ≡ false
   pub json : is_json u ≡ true
 
--- The text k is a member's name without the opening quotation mark. The parser derives the member's kind `name` from k,
--- `first` and d. The Boolean `first` is true if the member is the first member of its object. The number d counts the
--- open lists and objects.
+-- The text k is a member's name without the opening quotation mark. The parser derives the kind `name` of a member from
+-- the member's name k, the Boolean `first` and the number d. The Boolean `first` is true if the member is the first
+-- member of its object. The number d counts the open lists and objects.
 pub record IsNamed (wanted : Wanted) (first : Bool) (d : ℕ) (k : List ℕ) (name : Name) : Type 0 where
   pub string : EndsString k
   pub json : is_json (34 ∷ k) ≡ true
   pub says : name_of wanted first false false d (34 ∷ k) ≡ name
 
 -- The items that the parser returns for a member's value. A member of the kind `Document` has one item, a document, if
--- its value is an object. A member of the kind `Document` without an object, or of the kind `Passed`, `Last`, `Seq` or
--- `Other`, has no items.
+-- its value is an object. A member of the kind `Document` has no items if its value is not an object. A member of the
+-- kind `Passed`, `Last`, `Seq` or `Other` has no items.
 pub data Holds (wanted : Wanted) : Name → List ℕ → List Piece → Type 0 where
   document : {u v : List ℕ} → (slice_index u 0 == 123) ≡ true → covered wanted u ≡ Some v → Holds wanted Document u ((found.Document, v) ∷ [])
   no_object : {u : List ℕ} → (slice_index u 0 == 123) ≡ false → Holds wanted Document u []
@@ -99,8 +99,8 @@ mutual
         → IsObject wanted d (123 ∷ (s ++ t)) ps
     itself : {d : ℕ} {o : List ℕ} {ps : List Piece} → d < 8 → IsDocument wanted o ps → IsObject wanted d o ps
 
-  -- The members of an object, from a name to the closing brace. A flag says whether the name is the first name of the
-  -- object.
+  -- The members of an object, from a name to the closing brace. The Boolean argument is true if the members begin with
+  -- the object's first name.
   pub data IsMembers (wanted : Wanted) : Bool → ℕ → List ℕ → List Piece → Type 0 where
     last_value : {f : Bool} {d : ℕ} {k : List ℕ} (s s' : List ℕ) {t u : List ℕ} {name : Name} {ps : List Piece} → IsNamed wanted f d k name → Holds wanted name u ps
         → Spaces s → Spaces s' → IsValue t u → IsMembers wanted f d (34 ∷ (k ++ (s ++ 58 ∷ (s' ++ (t ++ 125 ∷ []))))) ps

@@ -12,7 +12,7 @@ use Rattle.response_parser.specs.declared.place.LinePlace.TheVariants.{Word, Res
 use Rattle.response_parser.specs.declared.place.Refusal.TheVariants.{NotJson, NoAnswer}
 use Rattle.response_parser.specs.declared.place.Found.TheVariants as found
 
--- The parser's state after it has read, in state s, the first byte b of a text in a line.
+-- The parser's state after reading the first byte b of a text in a line. The parser reads the byte b in the state s.
 abbrev pub text_begun : LinePlace → State → ℕ → State
 text_begun place s b = record s { place = Line place; text = b ∷ [] }
 
@@ -32,7 +32,8 @@ change_begun s b = cond (b == 32) (record s { place = Line Seq; text = [] }) (re
 abbrev pub is_change : State → Bool
 is_change s = wants_changes s.wanted && bytes_eq s.text (codes "change")
 
--- The parser's state after the first word of a line. The parser counts a line whose first word is `refused` as skipped.
+-- The parser's state after the first word of a line. If the first word of a line is `refused`, the parser counts the
+-- line as a skipped entry.
 abbrev pub word_passed : State → State
 word_passed s = record s { passed = cond (bytes_eq s.text (codes "refused")) (more s.passed) s.passed }
 

@@ -79,10 +79,10 @@ pub record InDocument (name : Name) (s : State) : Type 0 where
   pub found : s.found ≡ Nothing
 
 -- The states `full` and `stored` of two parsers that have read the same part of a document. The parser with the state
--- `full` stores each byte, and the parser with the state `stored` does not store some string bytes. The states `full`
--- and `stored` differ only in their texts. The text of `full` begins with `cut.full`, and the text of `stored` begins
--- with `cut.stored`, the stored bytes of `cut.full`. After `cut.full` and `cut.stored`, the texts of `full` and
--- `stored` are equal.
+-- `full` stores each byte, and the parser with the state `stored` may omit string bytes from its stored text. The
+-- states `full` and `stored` differ only in their texts. The text of `full` begins with `cut.full`, and the text of
+-- `stored` begins with `cut.stored`, the stored bytes of `cut.full`. The text of `full` after its part `cut.full`
+-- equals the text of `stored` after its part `cut.stored`.
 pub record Mirrors (cut : Cut) (name : Name) (full stored : State) : Type 0 where
   pub place : IsWithin name stored.place
   pub same : full ≡ record stored { text = full.text }
@@ -96,8 +96,9 @@ pub record Mirrors (cut : Cut) (name : Name) (full stored : State) : Type 0 wher
   pub stored_length : long ≤ length cut.stored
   pub log : is_plain name ≡ true → is_log cut.stored ≡ false
 
--- A parser has rejected a byte of a document, after a part of the document's output was written. The parser has the
--- state `full` if it stores each byte, and the state `stored` if it does not store some string bytes.
+-- A parser has rejected a byte of a document, after a part of the document's output was written. The state `full` is
+-- the state of a parser that stores each byte. The state `stored` is the state of a parser that may omit string bytes
+-- from its stored text.
 pub record Rejected (cut : Cut) (full stored : State) : Type 0 where
   pub like : Like full stored
   pub refused : is_refused stored.place ≡ true

@@ -24,9 +24,9 @@ abbrev pub outermost_name : Bool → List ℕ → Name
 outermost_name first t =
     cond (bytes_eq t (codes "\"db_info\"")) Last (cond (first && bytes_eq t (codes "\"seq\"")) Seq Other)
 
--- The kind of a JSON member with the name t, if the caller requested documents. The flag `first` says whether the name
--- t is the first name of its object. The flag `item` says whether the object is an item of the outermost object's list
--- `docs`, and `outermost` whether the object is an outermost object.
+-- For a caller that requested documents, the kind that the parser assigns to a JSON member with the name t. The flag
+-- `first` says whether the name t is the first name of its object. The flag `item` says whether the object is an item
+-- of the outermost object's list `docs`. The flag `outermost` says whether the object is an outermost object.
 abbrev pub document_name : Bool → Bool → Bool → Bool → List ℕ → Name
 document_name strict first item outermost t =
     cond (item && first) (cond (bytes_eq t (codes "\"_id\"")) Plain Item)
@@ -37,10 +37,11 @@ document_name strict first item outermost t =
     (cond (bytes_eq t (codes "\"missing\"") || bytes_eq t (codes "\"error\"")) Passed
     (cond (bytes_eq t (codes "\"last_seq\"")) Last (cond outermost (outermost_name first t) Other)))))))
 
--- The kind of a JSON member with the name t, if the caller requested leaves (document ids and revisions). In a
--- document's list of revisions, the parser reads only members `rev`, and ignores all other members. In a document's
--- entry in a `_revs_diff` response, the parser reads only members `missing`, and ignores all other members. The flags
--- `inner` and `entry` say whether a member is in a document's list of revisions or in a document's entry.
+-- For a caller that requested leaves (document ids and revisions), the kind that the parser assigns to a JSON member
+-- with the name t. In a document's list of revisions, the parser reads only members `rev`, and ignores all other
+-- members. In a document's entry in a `_revs_diff` response, the parser reads only members `missing`, and ignores all
+-- other members. The flag `inner` says whether the member is in a document's list of revisions. The flag `entry` says
+-- whether the member is in a document's entry.
 abbrev pub leaf_name : Bool → Bool → List ℕ → Name
 leaf_name inner entry t =
     cond entry (cond (bytes_eq t (codes "\"missing\"")) Missing Other)
@@ -133,8 +134,8 @@ is_id Reason = false
 is_id Other = false
 is_id Foreign = false
 
--- Whether a member's kind says that its value is a document's list of revisions, or the list `docs` of an outermost
--- object.
+-- Whether a member's value is one of two lists, according to the member's kind: a document's list of revisions, or the
+-- list `docs` of an outermost object.
 abbrev pub is_inner : Name → Bool
 is_inner Plain = false
 is_inner Item = false
@@ -213,8 +214,8 @@ passes Other first = false
 passes Foreign first = false
 
 -- The error that a member's value causes, or `None`. A value that must be a document id or a revision causes an error
--- if it is not a string. A string `reason` causes `CouchError` if a string `error` came before in the response, and the
--- parser entered or left no searched list or object in between.
+-- if it is not a string. A string `reason` causes `CouchError` if a string `error` came before in the response. Between
+-- `error` and `reason`, the parser must not have entered or left a list or object that it searches.
 abbrev pub refusal_of : Name → ℕ → Bool → Option Refusal
 refusal_of Plain first failed = None
 refusal_of Item first failed = None

@@ -52,8 +52,8 @@ object_closed s =
 abbrev pub empty_closed : State → State
 empty_closed s = object_closed (record s { known = wants_leaves s.wanted && s.depth == 1 })
 
--- The parser's state after the opening brace of a document's entry in a `_revs_diff` response. The parser reports the
--- name before the entry as the document's id.
+-- The parser's state after the opening brace of a document's entry in a `_revs_diff` response. The entry is the value
+-- of a member, and the parser reports the member's name as the document's id.
 abbrev pub entry_opened : State → State
 entry_opened s = opened Member (record s { diff = true; found = found.Id })
 
@@ -123,7 +123,7 @@ abbrev pub after_member : State → ℕ → State
 after_member s b =
     cond (is_space b) s (cond (b == 44) (at NextMember s) (cond (b == 125) (object_closed s) (refused NotJson s)))
 
--- The parser's state in an object that is read as one value, after the object's first name. The parser's stored text is
+-- The parser's state after the first name of an object that the parser reads as one value. The parser's stored text is
 -- the object's opening brace and first name.
 abbrev pub plain_begun : Name → State → State
 plain_begun name s = record s { place = Value name; text = 123 ∷ s.text; nesting = 1 }

@@ -12,8 +12,8 @@ abbrev pub more_by : ℕ → List ℕ → ℕ
 more_by n [] = n
 more_by n (b ∷ bytes) = more_by (more n) bytes
 
--- The parser's place in the value of a member of the kind `name`: within a string if the Boolean argument is true,
--- otherwise outside of strings.
+-- The parser's place in a member's value, if `name` is the member's kind. The place is within a string if the Boolean
+-- argument is true, and otherwise outside of strings.
 abbrev pub in_value_of : Name → Bool → Place
 in_value_of name true = Quoted name
 in_value_of name false = Value name

@@ -16,8 +16,8 @@ pub record State : Type 0 where
   pub some : Bool
   -- The number of lists and objects that are open at the parser's position.
   pub depth : ℕ
-  -- Whether the innermost open object has a member, such as `ok` or `results`, because of which the parser does not
-  -- skip the object. Whether the innermost open object has a member with a document id.
+  -- Whether the innermost open object has a known member, such as `ok` or `results`. The parser skips or rejects an
+  -- object without a known member. Whether the innermost open object has a member with a document id.
   pub known : Bool
   pub named : Bool
   -- Whether the parser's last name is the first name of its object.
@@ -26,15 +26,15 @@ pub record State : Type 0 where
   pub inner : Bool
   -- Whether the current response is a response of `_revs_diff`.
   pub diff : Bool
-  -- Whether the parser has read a member `error` with a string, and has since neither entered nor left a list or object
-  -- that it searches.
+  -- Whether the parser has read a member `error` with a string. The field becomes false when the parser enters or
+  -- leaves a list or object that it searches.
   pub failed : Bool
   -- The number of brackets that are open within the parser's current value.
   pub nesting : ℕ
-  -- The bytes of the current name or value that the parser has stored. After a name or value has ended, its stored text
-  -- is complete, except for string bytes of a long document that were not stored.
+  -- The stored bytes of the parser's current name or value. After a name or value has ended, its stored text is
+  -- complete, except for string bytes of a long document that were not stored.
   pub text : List ℕ
-  -- The text of CouchDB's error, from the last member `error`.
+  -- The text of CouchDB's error. The text is the value of the last member `error` that the parser has read.
   pub error : List ℕ
   -- The kind of item that the parser's last byte completed.
   pub found : Found

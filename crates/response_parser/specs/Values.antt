@@ -115,7 +115,7 @@ in_escaped name s b = at (Quoted name) (added b s)
 
 -- ---- entries of documents
 
--- The parser's state after it has read, in state s, the first byte b of a member's value.
+-- The parser's state after reading the first byte b of a member's value. The parser reads the byte b in the state s.
 abbrev pub in_begun : Place → State → ℕ → State
 in_begun Start s b = moved_between Start s b
 in_begun Begin s b = moved_between Begin s b

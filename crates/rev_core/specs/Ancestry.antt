@@ -19,7 +19,7 @@ pub record IsAncestry (revs : List RevId) : Type 0 where
   pub each : AllByRecursion IsRev revs
   pub falls : FallsByOne revs
 
--- The first revision of a list, which in an ancestry is the newest.
+-- The first revision of a list. The first revision of an ancestry is the ancestry's newest revision.
 abbrev pub head_of : List RevId → Option RevId
 head_of [] = None
 head_of (r ∷ rest) = Some r

@@ -19,7 +19,7 @@ is_sig text = nat_le 1 (length text) && nat_le (length text) 64 && list_all is_s
 abbrev pub sig_read : List ℕ → Result (List ℕ) RevFault
 sig_read text = if is_sig text then Ok text else Err faults.BadSig
 
--- The string with zero bytes appended up to a length of 64 bytes.
+-- The string, followed by bytes of value 0 up to a length of 64 bytes.
 abbrev pub padded : List ℕ → List ℕ
 padded text = text ++ replicate (64 - length text) 0
 

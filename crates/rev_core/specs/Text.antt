@@ -29,8 +29,8 @@ generation_read text = if is_generation text then Some (value_of text) else None
 abbrev pub is_dash : ℕ → Bool
 is_dash c = c == 45
 
--- The revision id with the parsed generation and with the string after the `-` as its signature, or the error of the
--- first invalid part.
+-- The revision id that has the parsed generation, and has the string after the `-` as its signature. If the generation
+-- or the signature is invalid, the result is the error of the first invalid part.
 abbrev pub with_sig : Option ℕ → List ℕ → Result RevId RevFault
 with_sig None text = Err faults.BadGeneration
 with_sig (Some n) text = if is_sig text then Ok (record { generation = n; sig = text }) else Err faults.BadSig

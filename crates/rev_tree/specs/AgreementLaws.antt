@@ -82,7 +82,7 @@ leaf_kept old other t grown l top there =
     ]
 
 -- Adding data of tree `other` to tree `old` gives tree t (`IsGrownBy`). If tree `other` has all leaves of tree `old`,
--- `other` has all leaves of the tree t, which is `old` with data of `other`.
+-- it also has all leaves of the extended tree t.
 pub leaves_known : (old other t : TreeValue) → IsGrownBy old other t → ((l : RevId) → is_leaf old l ≡ true → has other l ≡ true) → (l : RevId) → is_leaf t l ≡ true → has other l ≡ true
 leaves_known old other t grown all l top =
     elim (grown.revs l (and_parts _ _ top).0) [
@@ -198,8 +198,8 @@ same_order R S r s (k ∷ xs) h =
     ∙ same_placed R S r k (in_order R xs) (λ y m. h k y (ap (λ b. b || list_any (eq_by_cmp R k) xs) ((eq_by_cmp_equiv r).refl k)) (or_right _ _ (sym (any-in_order r xs y) ∙ m)))
     ∙ ap (placed S k) (same_order R S r s xs (λ a b m n. h a b (or_right _ _ m) (or_right _ _ n))) ∙ sym (in_order-cons s k xs)
 
--- Revision r is in the unsorted list of the leaves of tree t exactly if r is a leaf of t. A search for a revision in
--- the list of leaves may compare by any tree's leaf order, because only identical revisions compare as equal.
+-- Revision r is in the unsorted list of the leaves of tree t exactly if r is a leaf of t. The search for r in this list
+-- may use the leaf order of any tree u, because only identical revisions compare as equal in a leaf order.
 any_leaf : (u t : TreeValue) (r : RevId) → list_any (eq_by_cmp (leaf_cmp u) r) (filter (is_leaf t) (keys t.origins)) ≡ is_leaf t r
 any_leaf u t r =
     let all = filter (is_leaf t) (keys t.origins) in

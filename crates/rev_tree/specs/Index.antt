@@ -10,8 +10,8 @@ use Rattle.rev_tree.specs.declared.nodes.TheConstants.{MOST_WALKED}
 abbrev pub mark_of : RevId → ℕ
 mark_of r = (hasher.finish (hasher.write hasher.initial r.sig) + r.generation) % 2 ^ 64
 
--- The entries of a tree's index after adding the hash `mark` with the position `place` of a node. If the index already
--- has an entry for the hash, the entries do not change.
+-- The entries of a tree's index after adding the hash `mark` with the position `place` of a node. Adding a hash that
+-- already has an entry does not change the entries.
 abbrev pub noted : List (ℕ × ℕ) → ℕ → ℕ → List (ℕ × ℕ)
 noted entries mark place =
     if is_some (lookup (nat_eq mark) entries) then entries else entries ++ (mark, place) ∷ []

@@ -8,8 +8,8 @@ use Rattle.rev_tree.specs.declared.node.Known.TheVariants.{Bare, Full}
 use Rattle.rev_tree.specs.declared.origin.Origin.{Origin}
 use Rattle.rev_tree.specs.declared.origin.Origin.TheVariants.{Local, Feed}
 
--- A node: its revision, the index of its parent and its content if they are known, its origin, and whether it is the
--- parent of another node.
+-- A node: its revision, its origin, its content, its parent's index, and whether it is the parent of another node. The
+-- content and the parent's index may be unknown.
 pub record NodeValue : Type 0 where
   pub rev : RevId
   pub parent : Option ℕ
@@ -17,7 +17,7 @@ pub record NodeValue : Type 0 where
   pub origin : Origin
   pub has_child : Bool
 
--- A node of revision r without parent, content or child.
+-- A new node of revision r. The node has no parent, no content and no child.
 abbrev pub new_node : RevId → Origin → NodeValue
 new_node r origin = record { rev = r; parent = None; content = None; origin = origin; has_child = false }
 

@@ -103,15 +103,15 @@ pub record IsLed (nodes : List NodeValue) (best : ℕ) : Type 0 where
   pub tree : IsTree (tree_of nodes)
   pub first : slice_get (revs_in nodes) best ≡ first_of (leaves (tree_of nodes))
 
--- A list of nodes, with the number of nodes that fit into the list and the number of entries that fit into the index
--- without allocating.
+-- A list of nodes, with two capacities: the number of nodes and the number of index entries that can be stored without
+-- allocating.
 pub record NodesValue : Type 0 where
   pub items : List NodeValue
   pub capacity : ℕ
   pub index_capacity : ℕ
 
--- The list of nodes v has space for `more` further nodes. If the list with `more` further nodes is too long to be
--- scanned, the index has space for an entry of each node.
+-- The list of nodes v has space for `more` further nodes. A list that is too long to be scanned needs an index. If the
+-- list with `more` further nodes is too long, the index has space for an entry of each node.
 pub record HasRoom (v : NodesValue) (more : ℕ) : Type 0 where
   pub few : length v.items + more < 2 ^ 32
   pub nodes : length v.items + more ≤ v.capacity

@@ -1,5 +1,5 @@
--- Theorems about a tree that is a part of another tree. Adding a leaf with its ancestors to a part of a tree gives a
--- part of this tree. A part that has all leaves of the tree equals the complete tree.
+-- Theorems about a tree that is a part of another tree. If tree t is a part of tree s, it is still a part of s after
+-- adding a leaf of s and the leaf's ancestors. A part of s that has all leaves of s equals s.
 use Rattle.std.proofs.Common.{◌≡◌, ℕ, zero, suc, ◌≤◌, true, false, not, cond, ◌||◌, List, [], ◌∷◌, Option, Some, None, is_some, refl, sym, ap, ◌∙◌, inl, inr, arith}
 use Rattle.std.specs.Option.{option_map_or, option_or}
 use Rattle.std.specs.Ordering.{eq_by_cmp}
@@ -145,8 +145,8 @@ module _ (s t : TreeValue) (tree : IsTree s) (part : IsPart s t) (leaf : RevId) 
   absent_parent : (q : RevId) → has t q ≡ false → get t.parents q ≡ None
   absent_parent q h = none_is (get t.parents q) (λ p e. false≢true (sym h ∙ part.child q p e))
 
-  -- The following lemmas are about the tree `grown`: tree t with the leaf `leaf` of tree s and the leaf's ancestors
-  -- added.
+  -- The following lemmas are about the tree `grown`. The tree `grown` is tree t, after adding the leaf `leaf` of tree s
+  -- and the leaf's ancestors.
   brought_parent : (q : RevId) → is_among q revs ≡ true → get grown.parents q ≡ get s.parents q
   brought_parent q among =
       let edge : find rev_cmp q (edges_of revs) ≡ get s.parents q = edges_walked s tree leaf.generation leaf q known (omega arith) among in
@@ -222,7 +222,7 @@ module _ (s t : TreeValue) (tree : IsTree s) (part : IsPart s t) (leaf : RevId) 
 
 -- ---- the complete tree
 
--- A part of tree s that has a revision also has each of the revision's ancestors that a traversal of s visits.
+-- If a part of tree s has a revision, it also has each ancestor of the revision that a traversal of s visits.
 part_walked : (s t : TreeValue) → IsPart s t → (n : ℕ) (x r : RevId) → has t x ≡ true → is_among r (walk s.parents n x) ≡ true → has t r ≡ true
 part_walked s t part zero x r there h = elim (or_cases _ _ h) [ inl tie ↦ ap (has t) (rev_tie_is r x tie) ∙ there | inr nothing ↦ absurd (false≢true nothing) ]
 part_walked s t part (suc n) x r there h =

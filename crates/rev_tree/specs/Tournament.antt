@@ -1,6 +1,6 @@
 -- Defines the comparison tree (`Tournament`), which finds the winner of a revision tree. The comparison tree is a
 -- binary tree of comparisons between the leaves of the revision tree. A leaf is stored as the index of its node,
--- counted from 1. The number 0 is stored at an index of the comparison tree that has no leaf.
+-- counted from 1. If an index of the comparison tree has no leaf, the number 0 is stored at this index.
 use Rattle.std.specs.Prelude.{◌≡◌, ℕ, zero, suc, ◌-◌, ◌/◌, ◌<◌, ◌≤◌, ◌^◌, ◌⊎◌, Bool, true, false, cond, List, length, get_or, Option, Some, None, is_some, option_map, nat_lt, slice_get}
 use Rattle.std.specs.declared.cmp.Ordering.{Ordering}
 use Rattle.std.specs.Ordering.{is_lt, bool_cmp, ordering_then}
@@ -67,7 +67,7 @@ pub record IsEntry (nodes : List NodeValue) (winners : List ℕ) (entered k w : 
   pub within : w ≤ entered
   pub content : (p : ℕ) (n : NodeValue) → w ≡ suc p → slice_get nodes p ≡ Some n → is_some n.content ≡ true
 
--- The number w equals `one` or `other`, the stored forms of two leaves, and represents the leaf that wins.
+-- Two leaves have the stored forms `one` and `other`, and w is the stored form of the leaf that wins.
 pub record IsWinnerOf (nodes : List NodeValue) (one other w : ℕ) : Type 0 where
   pub either : (w ≡ one) ⊎ (w ≡ other)
   pub first : IsBefore (entry nodes w) (entry nodes one)

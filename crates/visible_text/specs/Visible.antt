@@ -6,8 +6,8 @@ use Rattle.std.specs.Char.{digit_char, is_control}
 use Rattle.std.specs.List.{flat_map, list_any}
 
 -- The ranges of hidden characters (which are printed only as escapes) above U+009F. The ranges have format characters,
--- direction marks, line and paragraph separators, and characters that Unicode 15 calls default-ignorable. U+FFFE and
--- U+FFFF are in the ranges because XML forbids these two characters.
+-- direction marks, line and paragraph separators, and characters that Unicode 15 calls default-ignorable. The ranges of
+-- hidden characters also have U+FFFE and U+FFFF, because XML forbids these two characters.
 abbrev pub hidden_ranges : List (ℕ × ℕ)
 hidden_ranges =
     (0xAD, 0xAD) ∷ (0x34F, 0x34F) ∷ (0x600, 0x605) ∷ (0x61C, 0x61C) ∷ (0x6DD, 0x6DD) ∷ (0x70F, 0x70F) ∷ (0x890, 0x891)

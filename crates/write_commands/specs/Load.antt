@@ -51,7 +51,7 @@ made_line db = ended (codes "made " ++ db)
 abbrev pub there_line : List ℕ → List ℕ
 there_line db = ended (codes "there " ++ db)
 
--- The part of a line printed by `load` that has a document's id and the document's newest revision.
+-- In a line that `load` prints, the text with a document's id and newest revision.
 abbrev pub document_part : Document → List ℕ
 document_part doc = quoted doc.id ++ codes " " ++ text_of_any (head_of doc.ancestry)
 

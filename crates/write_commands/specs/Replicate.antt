@@ -89,7 +89,7 @@ replicate_in d = do
 
 -- ---- its output
 
--- The part of the output of `replicate` that has a report's session id, start and recorded sequence.
+-- In the output of `replicate`, the text with a report's session id, start sequence and recorded sequence.
 abbrev pub session_part : Report → List ℕ
 session_part r =
     codes "session " ++ id_digits r.session.0 ++ codes " from " ++ decimal r.start ++ codes " to " ++ decimal r.recorded
@@ -159,23 +159,23 @@ plan_of s options chosen = plan_with s.program options (session_of s options) ch
 
 -- ---- its result
 
--- How a replication by one thread ended, or the error with which it failed. A replication by one thread that returned
--- `Unfinished` has not failed.
+-- How a replication by one thread ended, or the error with which it failed. A replication by one thread has not failed
+-- if it returned `Unfinished`.
 abbrev pub ending_of : Result Report TargetFault → Result Ending Refusal
 ending_of (Ok report) = Ok (Done report)
 ending_of (Err fault) = do
   low_water ← stop_of fault
   Ok (Stopped low_water)
 
--- How a replication by the pool ended, or the error with which it failed. A replication by the pool that returned
--- `Unfinished` has not failed.
+-- How a replication by the pool ended, or the error with which it failed. A replication by the pool has not failed if
+-- the replication returned `Unfinished`.
 abbrev pub ending_of_run : Result Report PoolFault → Result Ending Refusal
 ending_of_run (Ok report) = Ok (Done report)
 ending_of_run (Err fault) = do
   low_water ← run_stop_of fault
   Ok (Stopped low_water)
 
--- How a replication by the pool with a progress board ended, or the error with which it failed.
+-- How a replication by the pool ended, or the error with which it failed. The replication used a progress board.
 abbrev pub ending_of_watched : Result Watched PoolFault → Result Ending Refusal
 ending_of_watched (Ok watched) = Ok (Shown watched)
 ending_of_watched (Err fault) = ending_of_run (Err fault)
@@ -200,8 +200,8 @@ replicated_text session ended = do
   ending ← ended
   Ok (ending_line session ending)
 
--- The result of a `replicate` line between two existing databases, given the line's selection of documents, or the
--- error of an invalid selection.
+-- The result of a `replicate` line between two existing databases. The fourth argument is the line's selection of
+-- documents, or the error with which building the selection failed.
 abbrev pub ReplicatesChosen : State → ReplicateAsk → PeerValue × PeerValue → Result Choice Refusal → Told → State
     → Type 0
 ReplicatesChosen old ask both (Ok chosen) told new =
@@ -234,8 +234,8 @@ ReportsReplication old ask told new = ReplicatesFound old ask (both_of old ask) 
 
 -- ---- the guarantee of `replicate`, as specified in docs/PROFILE.md, "Tied databases"
 
--- The guarantee for a session that reached its goal and recorded sequence n. Sequence n is the source's update
--- sequence, and the target covers each leaf of the source's selected feed.
+-- The guarantee for a session that reached its goal and recorded a sequence. The recorded sequence is the source's
+-- update sequence, and the target covers each leaf of the source's selected feed.
 abbrev pub CoversIfDone : State → List ℕ → List ℕ → Choice → Ending → Type 0
 CoversIfDone s source target chosen (Done report) = CoversUpTo s source target chosen report.recorded
 CoversIfDone s source target chosen (Shown watched) = CoversUpTo s source target chosen watched.report.recorded

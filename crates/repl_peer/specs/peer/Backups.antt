@@ -17,7 +17,7 @@ pub record BackupValue : Type 0 where
   pub locals : List WrittenValue
   pub outgoing : List (RepId × List EntryValue)
 
--- A peer without incoming sessions that has the database, the local writes and the outgoing logs of backup b.
+-- The peer with the database, local writes and outgoing logs of backup b, and without incoming sessions.
 abbrev pub peer_of : BackupValue → PeerValue
 peer_of b = record { db = b.db; locals = b.locals; sessions = []; outgoing = b.outgoing }
 
@@ -54,9 +54,9 @@ restore_answer p b =
     then (if nat_lt (greater_life p b) most then Ok tt else Err faults.LifeFull)
     else Err faults.ForeignBackup)
 
--- Peer p after restoring backup b. The restored peer has the database, local writes and outgoing logs of b. The life of
--- a database is a number that each restore raises. The restored database's life is one more than the greater of the
--- lives of peer p's database and backup b's database.
+-- Peer p after restoring backup b. The restored peer has the database, local writes and outgoing logs of backup b. The
+-- life of a database is a number that each restore raises. The restored database's life is one more than the greater of
+-- the lives of peer p's database and backup b's database.
 abbrev pub restored : PeerValue → BackupValue → PeerValue
 restored p b =
     record p { db = in_life b.db (greater_life p b + 1); locals = b.locals; outgoing = b.outgoing }

@@ -10,8 +10,8 @@ use Rattle.couch_base.specs.Edit.{edited, edit_document}
 use Rattle.couch_base.specs.declared.fault.BaseFault.{BaseFault}
 use Rattle.repl_peer.specs.peer.Peer.{WrittenValue, written_of}
 
--- The list of local writes after a put of document d. If storing document d changes the database, the local write of d
--- is appended to the list of local writes.
+-- The list of a peer's local writes, updated for a put of document d. If storing document d changes the database, the
+-- local write of d is appended to the list of local writes.
 abbrev pub with_load : DatabaseValue → List WrittenValue → Document → List WrittenValue
 with_load db locals d = if is_changed (put_answer db d) then locals ++ written_of d ∷ [] else locals
 
@@ -20,8 +20,8 @@ abbrev pub with_edited : DatabaseValue → List WrittenValue → Id → Bool →
 with_edited db locals id deleted body (Ok e) = with_load db locals (edit_document id e deleted body)
 with_edited db locals id deleted body (Err fault) = locals
 
--- The list of local writes after an edit. If the edit changes the database, the write of the edited document is
--- appended to the list of local writes.
+-- The list of a peer's local writes, updated for an edit of a document. If the edit changes the database, the write of
+-- the edited document is appended to the list of local writes.
 abbrev pub with_edit : DatabaseValue → List WrittenValue → Id → Option RevId → Bool → List ℕ → List WrittenValue
 with_edit db locals id parent deleted body = with_edited db locals id deleted body (edited db id parent deleted body)
 

@@ -12,7 +12,7 @@ use Rattle.couch_base.specs.Database.{Id, tree_of}
 use Rattle.couch_base.specs.Feed.{RowValue, WindowValue}
 use Rattle.repl_peer.specs.peer.Peer.{PeerValue, SessionValue, WrittenValue}
 
--- Local write number n of peer p is a write of document `id` whose revisions include r.
+-- Local write number n of peer p wrote document `id` with an ancestry that includes revision r.
 pub record IsLocal (p : PeerValue) (id : Id) (r : RevId) (n : ℕ) : Type 0 where
   pub write : WrittenValue
   pub stored : slice_get p.locals n ≡ Some write
@@ -44,11 +44,11 @@ pub record IsFed (p : PeerValue) (id : Id) (r : RevId) (session : SessionId) (se
   pub listed : IsListed by id seq
   pub arrived : IsArrival by id r
 
--- Peer p has the local write or the session from which, according to its origin, revision r of document `id` came. An
--- origin is a local write, or a session and a sequence of the session's source. If the origin is a local write, peer p
--- has the write, and the write has revision r (`IsLocal`). If the origin is a session and a sequence, peer p has the
--- session, with a row of the document at this sequence (`IsFed`). In addition, the session of the origin has an arrival
--- (a stored document) with revision r.
+-- Revision r of document `id` came to peer p as the revision's origin says: peer p has the local write or the session
+-- of the origin. An origin is a local write, or a session and a sequence of the session's source. If the origin is a
+-- local write, peer p has the write, and the write has revision r (`IsLocal`). If the origin is a session and a
+-- sequence, peer p has the session, with a row of the document at this sequence (`IsFed`). In addition, the session of
+-- the origin has an arrival (a stored document) with revision r.
 abbrev pub ComesFrom : PeerValue → Id → RevId → Origin → Type 0
 ComesFrom p id r (Local n) = IsLocal p id r n
 ComesFrom p id r (Feed session seq) = IsFed p id r session seq

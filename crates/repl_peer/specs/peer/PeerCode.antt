@@ -29,9 +29,9 @@ coded_written =
     code_by (Id × List RevId) (coded× coded_id (coded_list coded_rev)) (λ w. (w.id, w.ancestry))
     (λ p. record { id = p.0; ancestry = p.1 }) (λ _. refl)
 
--- The reason why a document is in a ledger, encoded as data. If the document contradicts the tree, the code has a
--- revision, its parent in the tree, and its parent in the document. If the write filter rejected the document, the code
--- is the unit value.
+-- The reason why a document is in a ledger, encoded as data. If the document contradicts the tree, the encoded reason
+-- has three revisions: a child, the child's parent in the tree, and the child's parent in the document. If the write
+-- filter rejected the document, the encoded reason is the unit value.
 abbrev reason_parts : Reason → Unit {0} ⊎ (RevId × (RevId × RevId))
 reason_parts Filtered = inl tt
 reason_parts (Contradicting child known given) = inr (child, (known, given))

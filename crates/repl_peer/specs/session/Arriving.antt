@@ -8,7 +8,7 @@ use Rattle.repl_peer.specs.peer.Peer.{WrittenValue, SessionValue, written_of}
 abbrev pub AreArrivalsOf : List Document → List WrittenValue → Type 0
 AreArrivalsOf docs all = all ≡ map written_of (take (length all) docs)
 
--- Session s after the documents `docs` were added as arrivals and counted as read and as written.
+-- The state of session s after adding the documents `docs` as arrivals, and counting them as read and as written.
 abbrev pub with_arrivals : List Document → SessionValue → SessionValue
 with_arrivals docs s =
     record s {

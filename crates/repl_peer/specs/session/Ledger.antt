@@ -1,4 +1,4 @@
--- Defines the form in which a ledger row stores the reason.
+-- Defines how a ledger row stores the reason why a document is in the ledger.
 use Rattle.repl_peer.specs.declared.fault.Reason.{Reason}
 use Rattle.repl_peer.specs.declared.fault.Reason.TheVariants as reasons
 use Rattle.repl_peer.specs.declared.session.refused.StoredReason.{StoredReason}

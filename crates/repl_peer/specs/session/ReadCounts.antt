@@ -1,4 +1,4 @@
--- Defines a session's count of documents read, and by how much settling increases this count, as specified in
+-- Defines a session's count of documents read, and the amount that settling adds to this count, as specified in
 -- docs/PROFILE.md, "Settling".
 use Rattle.std.specs.Prelude.{ℕ, List, Option, Some, None, Result, Ok, Err}
 use Rattle.rev_tree.specs.declared.origin.SessionId.{SessionId}

@@ -49,8 +49,8 @@ recorded_by sessions rep (Some base) = recorded_of (base_in sessions rep base)
 abbrev pub in_ledgers : List SessionValue → Id → RevId → Bool
 in_ledgers sessions id r = list_any (λ s. in_ledger s.ledger id r) sessions
 
--- The result of a call, in which the value of a log entry (`EntryValue`) replaces the log entry that the program stores
--- (`Entry`).
+-- The result of a call, with a log entry in the form `EntryValue` instead of the form `Entry`, which the program
+-- stores.
 abbrev pub entry_value : Result Entry TargetFault → Result EntryValue TargetFault
 entry_value (Ok e) = Ok (value_of e)
 entry_value (Err fault) = Err fault

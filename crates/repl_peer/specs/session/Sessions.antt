@@ -21,14 +21,15 @@ abbrev pub GivesUnlessMemory : {A : Type 0} → Result A TargetFault → Result 
 GivesUnlessMemory (Err faults.Memory) expected = IsOk expected
 GivesUnlessMemory result expected = result ≡ expected
 
--- The peer's error that corresponds to an error of a session's front (which says which windows are done).
+-- The peer's error for an error of a session's front. A front says which windows of the session are done.
 abbrev pub refused_by_front : FrontFault → TargetFault
 refused_by_front (front_faults.NotRising end) = faults.Gap end
 refused_by_front front_faults.NoSuchWindow = faults.ForeignParcel
 refused_by_front front_faults.AlreadyDone = faults.AlreadyDone
 refused_by_front front_faults.Memory = faults.Memory
 
--- Peer p after function `change` is applied to the found session, or the unchanged peer if no session was found.
+-- The state of peer p after applying the function `change` to the found session. If no session was found, peer p is
+-- unchanged.
 abbrev pub on_found : PeerValue → (SessionValue → SessionValue) → Option SessionValue → PeerValue
 on_found p change None = p
 on_found p change (Some s) = record p { sessions = with_session p.sessions (change s) }
@@ -128,7 +129,7 @@ after_append p id w = on_session p id (λ s. with_window w s (append_in w s))
 
 -- ---- recording
 
--- Session s after the peer has recorded, at timestamp `at`, the session's low water as its recorded sequence.
+-- The state of session s after recording, at timestamp `at`, the session's low water as its recorded sequence.
 abbrev pub recorded_at : ℕ → SessionValue → SessionValue
 recorded_at at s = record s { recorded = low_water s.front; end_time = at }
 

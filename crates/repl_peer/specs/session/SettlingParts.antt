@@ -69,8 +69,8 @@ IsIndexedWith d old new =
 abbrev pub settling_at : DatabaseValue → SessionValue → Settling
 settling_at db session = record { db = db; session = session }
 
--- Settling document d changes the database and the session from `before` to `after`, and does not stop at d. The tree
--- stores the origin o for each revision that settling document d adds.
+-- Settling document d changes the database and the session from `before` to `after`, and does not stop at d. Each
+-- revision that document d adds to its tree is stored with the origin o.
 pub record Steps (refuses : Document → Bool) (o : Origin) (d : Document) (before after : Settling) : Type 0 where
   pub goes : stops_at refuses before d ≡ false
   pub step : (w : WindowValue) → o ≡ fed w before.session.id d → after ≡ settle_one refuses w before d
@@ -95,7 +95,7 @@ pub record ReachedAll (refuses : Document → Bool) (w : WindowValue) (before : 
   pub all : settled_before refuses w before docs ≡ length docs
   pub settling : after ≡ settle_docs refuses w before docs
 
--- The database and session after the session's window w is marked as done.
+-- The database and the session after marking window w of the session as done.
 abbrev pub with_mark : WindowValue → ParcelValue → Settling → Settling
 with_mark w parcel z = record z { session = with_done w parcel z.session }
 
@@ -129,7 +129,7 @@ Marks known w s leaves asked n (Err (faults.Uncovered seq id rev)) t =
 Marks known w s leaves asked n (Err (faults.Stopped m rest causes.Memory)) t = (m ≡ n) × (rest.items ≡ []) × (t ≡ s)
 Marks known w s leaves asked n (Err fault) t = ⊥
 
--- The result of settling a parcel and the state after settling, if the parcel's checks have passed.
+-- What settling a parcel gives if the parcel's checks have passed: a result, and the state after settling.
 abbrev pub PartsSettled : (Document → Bool) → (Id → RevId → Bool) → WindowValue → Settling → ParcelValue
     → Result Settled TargetFault → Settling → Type 0
 PartsSettled refuses known w before parcel (Ok settled) after = SettlesAndMarks refuses known w before parcel settled after
@@ -155,6 +155,6 @@ PartsGive refuses known before parcel result after =
 
 -- ---- the table of sessions
 
--- Peer p after its database and its sessions are replaced.
+-- The state of peer p after replacing its database and its sessions.
 abbrev pub with_parts : PeerValue → DatabaseValue → List SessionValue → PeerValue
 with_parts p db sessions = record p { db = db; sessions = sessions }

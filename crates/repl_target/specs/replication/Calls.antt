@@ -28,14 +28,14 @@ settled_of refuses p parcel (Ok at) = settled_before refuses at.1 (settling_of p
 abbrev pub most_settled : (Document → Bool) → PeerValue → SessionId → ParcelValue → ℕ
 most_settled refuses p session parcel = settled_of refuses p parcel (settle_check p session parcel)
 
--- The target after an allocation failed while a parcel was settled. The target has settled the parcel's first n
--- documents, but at most the documents that `settle` settles if no allocation fails (`most_settled`).
+-- The target's state if an allocation fails during the settling of a parcel. The number of settled documents is the
+-- lesser of n and the number that `settle` settles if no allocation fails (`most_settled`).
 abbrev pub after_some : (Document → Bool) → PeerValue → SessionId → ParcelValue → ℕ → PeerValue
 after_some refuses p session parcel n =
     after_stop refuses p session parcel (min n (most_settled refuses p session parcel))
 
--- A call that may change a target: a local write, or a step of a replication. `Stop` is a call of `settle` that
--- processes at most `settled` documents of the parcel, and then returns an error because an allocation failed.
+-- A call that may change a target: a local write, or a step of a replication. `Stop` is a call of `settle` that fails
+-- because an allocation fails. The number `settled` limits the documents that the call processes before it fails.
 pub data Call : Type 0 where
   Load : (doc : Document) → Call
   Edit : (id : Id) (parent : Option RevId) (deleted : Bool) (body : List ℕ) → Call
@@ -73,8 +73,8 @@ pub record IsPageOf (db : DatabaseValue) (chosen : Choice) (w : WindowValue) : T
   pub is : w ≡ page db since goal limit chosen
 
 -- A call that a replication makes on the target for the session `run`, which has begun. The call begins no session and
--- makes no local write. The call appends only a page of the source's selected feed, and settles only a parcel that the
--- source returned.
+-- makes no local write. A call that appends a window appends a page of the source's selected feed. A call that settles
+-- a parcel settles a parcel that the source returned.
 abbrev pub IsFrom : DatabaseValue → Choice → SessionId → Call → Type 0
 IsFrom source chosen run (Append session window) = (session ≡ run) × IsPageOf source chosen window
 IsFrom source chosen run (Settle session parcel) = (session ≡ run) × (parcel ≡ open_revs source parcel.asked)

@@ -1,5 +1,5 @@
--- Defines how a replication on one thread or several changes both peers, as specified in docs/PROFILE.md, "Replication
--- by one thread", "The pool" and "Tied peers".
+-- Defines how a replication (on one thread or on several threads) changes both peers, as specified in docs/PROFILE.md,
+-- "Replication by one thread", "The pool" and "Tied peers".
 use Rattle.std.specs.Prelude.{◌≡◌, ◌⊎◌, Bool, List}
 use Rattle.rev_tree.specs.Agreement.{IsGrownBy}
 use Rattle.doc_json.specs.Document.{Document}
@@ -25,10 +25,10 @@ IsPut source target chosen source' =
     (source' ≡ source)
     ⊎ (e : EntryValue) × IsSentEntry target e × (source' ≡ after_put_entry source (rep_between source target chosen) e)
 
--- How a replication changes both peers. At the source of a replication, only the log may have changed. A replication's
--- target is unchanged or has grown by calls of the plan's session. A replication keeps the source and the target
--- consistent with each other (`IsTiedWith`). `KeepsOthersTied` states when the source and the target stay consistent
--- with third peers.
+-- How a replication changes both peers. At the source of a replication, only the log may have changed. A replication
+-- changes its target only by beginning the plan's session, and by calls for this session. A replication keeps the
+-- source and the target consistent with each other (`IsTiedWith`). `KeepsOthersTied` states when the source and the
+-- target stay consistent with third peers.
 pub record Leaves (refuses : Document → Bool) (source target : PeerValue) (plan : Plan) (source' target' : PeerValue)
     : Type 0 where
   pub log : source' ≡ record source { outgoing = source'.outgoing }

@@ -136,7 +136,8 @@ Reads refuses source plan (suc n) from to =
     (before : Reading) × Reads refuses source plan n from before × (is_due source plan n before.since ≡ true)
     × Carries refuses source plan before to
 
--- The windows of a replication are read, stored and settled in order, until no further window must be read.
+-- The windows of a replication are read, stored and settled in order. Reading ends when no further window is due
+-- (`is_due`).
 abbrev pub ReadsAll : (Document → Bool) → DatabaseValue → Plan → Reading → PeerValue → Type 0
 ReadsAll refuses source plan from target' =
     (n : ℕ) × (now : Reading) × Reads refuses source plan n from now × (is_due source plan n now.since ≡ false)
@@ -150,7 +151,8 @@ ReadsUntil refuses source plan from why target' =
 
 -- ---- the end
 
--- The target p after a call of `conclude` for the plan's session and, if `conclude` failed, a call of `record`.
+-- The state of the target p after a call of `conclude` for the plan's session. If `conclude` fails, it is followed by a
+-- call of `record`.
 abbrev pub closed_as : PeerValue → Plan → Result Report TargetFault → PeerValue
 closed_as p plan (Ok report) = after_conclude p plan.session plan.at
 closed_as p plan (Err fault) = after_record (after_conclude p plan.session plan.at) plan.session plan.at
@@ -158,8 +160,8 @@ closed_as p plan (Err fault) = after_record (after_conclude p plan.session plan.
 abbrev pub closed : PeerValue → Plan → PeerValue
 closed p plan = closed_as p plan (conclude_answer p plan.session)
 
--- The source after an entry was put into the log of a replication. If the entry is older than the stored entry, or an
--- allocation fails, the source is unchanged.
+-- The state of the source after a call that puts an entry into the log of a replication. If the entry is older than the
+-- stored entry, or an allocation fails, the source is unchanged.
 abbrev pub PutsOver : PeerValue → RepId → EntryValue → Result (Unit {0}) AllocError → PeerValue → Type 0
 PutsOver source rep entry (Ok done) source' = source' ≡ after_put_entry source rep entry
 PutsOver source rep entry (Err refused) source' = source' ≡ source
