@@ -1,5 +1,5 @@
 -- The effect of a write at one peer of a network: trees that agree still agree if the write fits.
-use Rattle.proof_prelude.proofs.{◌≡◌, ◌≢◌, ◌⊎◌, ℕ, ◌==◌, Bool, true, false, cond, List, slice_get, Option, Some, unwrap_or, Result, Ok, Err, refl, sym, ap, ◌∙◌, subst, inl, inr, bytes_eq, cases_Bool, cond_both, eqb-false, bytes_eq-Decides, eqb-true}
+use Rattle.proof_prelude.proofs.{◌≡◌, ◌⊎◌, ℕ, Bool, true, false, cond, List, Option, Some, unwrap_or, Result, Ok, Err, refl, sym, ap, ◌∙◌, subst, inl, inr, bytes_eq, cases_Bool, cond_both, bytes_eq-Decides}
 use Rattle.rev_core.specs.{RevId}
 use Rattle.rev_tree.specs.{TreeValue, has, merged, no_revisions, Agree, IsWhole, IsRoot, IsGrownBy, IsGrownBy-same, Origin}
 use Rattle.rev_tree.specs.declared.origin.Origin.TheVariants.{Local}
@@ -8,6 +8,7 @@ use Rattle.couch_base.specs.{Id, DatabaseValue, tree_in, tree_of, with_tree, tre
 use Rattle.repl_peer.specs.{PeerValue, next_local, after_load, load_edited, after_edit}
 use Rattle.repl_network.specs.{IsAt, AllAgree, AllWhole, tree_alone, FitsIn, IsRooted, IsRootedAt, EditFits, KeepsAgreement, IsChangedAt}
 use Rattle.repl_network.proofs.Edits.{edit_rooted}
+use Rattle.repl_network.proofs.Positions.{becomes, was_at}
 use Rattle.repl_network.proofs.Trees.{Agree-both, IsGrownBy-written, IsWhole-written}
 
 pub one_peer : (peers : List PeerValue) (n : ℕ) (p q : PeerValue) → IsAt peers n p → IsAt peers n q → p ≡ q
@@ -46,89 +47,52 @@ module _ (t : TreeValue) (d : Document) (t' : TreeValue) where
   written_whole (inl same) whole rooted = subst IsWhole (sym same) whole
   written_whole (inr w) whole rooted = subst IsWhole (sym w.1) (IsWhole-written t d.ancestry (content_of d.deleted d.body) w.0 (Local 0) whole rooted)
 
--- ---- nothing changes
-
-module _ (peers peers' : List PeerValue) (same : (n : ℕ) → slice_get peers' n ≡ slice_get peers n) where
-  pub before_at : (n : ℕ) (p : PeerValue) → IsAt peers' n p → IsAt peers n p
-  before_at n p at = sym (same n) ∙ at
-
-  pub same_agree : (id : Id) → KeepsAgreement peers peers' id
-  same_agree id agree whole = (λ m n p q a b. agree m n p q (before_at m p a) (before_at n q b), λ n p at. whole n p (before_at n p at))
-
 -- ---- a write in a network
 
 module _ (peers : List PeerValue) (place : ℕ) (d : Document) (peers' : List PeerValue) (w : IsChangedAt place (λ p. after_load p d) peers peers') where
-  abbrev pub after : PeerValue
+  abbrev after : PeerValue
   after = after_load w.before d
 
-  abbrev pub Where : ℕ → Type 0
-  Where n = (n ≡ place) ⊎ (n ≢ place)
-
-  pub where_is : (n : ℕ) → Where n
-  where_is n = elim (cases_Bool (n == place)) [ inl t ↦ inl (eqb-true n place t) | inr f ↦ inr (eqb-false n place f) ]
-
-  pub after_is : (n : ℕ) (p : PeerValue) → IsAt peers' n p → n ≡ place → after ≡ p
-  after_is n p at e = one_peer peers' place after p w.at_then (subst (λ k. IsAt peers' k p) e at)
-
-  pub other_is : (n : ℕ) (p : PeerValue) → IsAt peers' n p → n ≢ place → IsAt peers n p
-  other_is n p at o = sym (w.others n o) ∙ at
-
-  -- ---- a document
+  before_at : (P : PeerValue → PeerValue → Type 0) → P w.before after → ((p : PeerValue) → P p p) → (n : ℕ) (p : PeerValue) → IsAt peers' n p → (q : PeerValue) × IsAt peers n q × P q p
+  before_at = was_at peers place w.before after peers' (becomes peers place (λ p. after_load p d) peers' w)
 
   tree_then : WrittenTree (tree_of w.before.db.docs d.id) d (tree_of after.db.docs d.id)
   tree_then = put_tree w.before.db d (next_local w.before)
 
-  other_tree : (id : Id) → bytes_eq d.id id ≡ false → tree_of after.db.docs id ≡ tree_of w.before.db.docs id
-  other_tree id apart = put_other w.before.db d (next_local w.before) id apart
-
   -- the tree of the written document at each peer
-  pub tree_at : (n : ℕ) (p : PeerValue) → IsAt peers' n p → Where n → (q : PeerValue) × IsAt peers n q × IsGrownBy (tree_of q.db.docs d.id) (tree_alone d) (tree_of p.db.docs d.id)
-  tree_at n p at (inl e) = (
-    w.before,
-    subst (λ k. IsAt peers k w.before) (sym e) w.at,
-    subst (λ (x : PeerValue). IsGrownBy (tree_of w.before.db.docs d.id) (tree_alone d) (tree_of x.db.docs d.id)) (after_is n p at e) (written_grown (tree_of w.before.db.docs d.id) d (tree_of after.db.docs d.id) tree_then),
-  )
-  tree_at n p at (inr o) = (p, other_is n p at o, IsGrownBy-same (tree_of p.db.docs d.id) (tree_alone d))
-
-  whole_at : AllWhole peers d.id → IsRootedAt peers place d → (n : ℕ) (p : PeerValue) → IsAt peers' n p → Where n → IsWhole (tree_of p.db.docs d.id)
-  whole_at whole rooted n p at (inl e) =
-      subst (λ (x : PeerValue). IsWhole (tree_of x.db.docs d.id)) (after_is n p at e) (written_whole (tree_of w.before.db.docs d.id) d (tree_of after.db.docs d.id) tree_then (whole place w.before w.at) (rooted w.before w.at))
-  whole_at whole rooted n p at (inr o) = whole n p (other_is n p at o)
+  pub tree_at : (n : ℕ) (p : PeerValue) → IsAt peers' n p → (q : PeerValue) × IsAt peers n q × IsGrownBy (tree_of q.db.docs d.id) (tree_alone d) (tree_of p.db.docs d.id)
+  tree_at = before_at (λ q p. IsGrownBy (tree_of q.db.docs d.id) (tree_alone d) (tree_of p.db.docs d.id)) (written_grown (tree_of w.before.db.docs d.id) d (tree_of after.db.docs d.id) tree_then) (λ p. IsGrownBy-same (tree_of p.db.docs d.id) (tree_alone d))
 
   pub wrote_whole : AllWhole peers d.id → IsRootedAt peers place d → AllWhole peers' d.id
-  wrote_whole whole rooted n p at = whole_at whole rooted n p at (where_is n)
+  wrote_whole whole rooted n p at =
+      let stays = λ (was : IsWhole (tree_of w.before.db.docs d.id)). written_whole (tree_of w.before.db.docs d.id) d (tree_of after.db.docs d.id) tree_then was (rooted w.before w.at) in
+      let x = before_at (λ q p. IsWhole (tree_of q.db.docs d.id) → IsWhole (tree_of p.db.docs d.id)) stays (λ _ was. was) n p at in
+      x.2 (whole n x.0 x.1)
 
   written_agree : AllAgree peers d.id → FitsIn peers d → AllAgree peers' d.id
   written_agree agree fits m n p q a b =
-      let x = tree_at m p a (where_is m) in
-      let y = tree_at n q b (where_is n) in
+      let x = tree_at m p a in
+      let y = tree_at n q b in
       Agree-both (tree_alone d) (tree_of x.0.db.docs d.id) (tree_of y.0.db.docs d.id) (tree_of p.db.docs d.id) (tree_of q.db.docs d.id) x.2 y.2
       (agree m n x.0 y.0 x.1 y.1) (fits m x.0 x.1) (turned (tree_of y.0.db.docs d.id) (tree_alone d) (fits n y.0 y.1))
 
   -- the tree of another document
-  pub same_at : (id : Id) → bytes_eq d.id id ≡ false → (n : ℕ) (p : PeerValue) → IsAt peers' n p → Where n → (q : PeerValue) × IsAt peers n q × (tree_of p.db.docs id ≡ tree_of q.db.docs id)
-  same_at id apart n p at (inl e) = (
-    w.before,
-    subst (λ k. IsAt peers k w.before) (sym e) w.at,
-    subst (λ (x : PeerValue). tree_of x.db.docs id ≡ tree_of w.before.db.docs id) (after_is n p at e) (other_tree id apart),
-  )
-  same_at id apart n p at (inr o) = (p, other_is n p at o, refl)
+  pub same_at : (id : Id) → bytes_eq d.id id ≡ false → (n : ℕ) (p : PeerValue) → IsAt peers' n p → (q : PeerValue) × IsAt peers n q × (tree_of p.db.docs id ≡ tree_of q.db.docs id)
+  same_at id apart = before_at (λ q p. tree_of p.db.docs id ≡ tree_of q.db.docs id) (put_other w.before.db d (next_local w.before) id apart) (λ _. refl)
 
   other_agree : (id : Id) → bytes_eq d.id id ≡ false → KeepsAgreement peers peers' id
   other_agree id apart agree whole = (
     λ m n p q a b.
-        (let x = same_at id apart m p a (where_is m) in
-        let y = same_at id apart n q b (where_is n) in
+        (let x = same_at id apart m p a in
+        let y = same_at id apart n q b in
         subst (λ s. Agree s (tree_of q.db.docs id)) (sym x.2) (subst (Agree (tree_of x.0.db.docs id)) (sym y.2) (agree m n x.0 y.0 x.1 y.1))),
-    λ n p at. (let x = same_at id apart n p at (where_is n) in subst IsWhole (sym x.2) (whole n x.0 x.1)),
+    λ n p at. (let x = same_at id apart n p at in subst IsWhole (sym x.2) (whole n x.0 x.1)),
   )
 
   pub wrote_agree : FitsIn peers d → IsRootedAt peers place d → (id : Id) → KeepsAgreement peers peers' id
   wrote_agree fits rooted id =
       elim (cases_Bool (bytes_eq d.id id)) [
-        | inl same ↦
-            subst (KeepsAgreement peers peers') ((bytes_eq-Decides d.id id).0 same)
-            (λ agree whole. (written_agree agree fits, λ n p at. whole_at whole rooted n p at (where_is n)))
+        | inl same ↦ subst (KeepsAgreement peers peers') ((bytes_eq-Decides d.id id).0 same) (λ agree whole. (written_agree agree fits, wrote_whole whole rooted))
         | inr apart ↦ other_agree id apart
       ]
 
@@ -145,21 +109,18 @@ module _ (peers : List PeerValue) (place : ℕ) (id : Id) (parent : Option RevId
   }
 
   -- the edit changes nothing
-  pub none_of : (why : BaseFault) → edited w.before.db id parent deleted body ≡ Err why → (n : ℕ) → slice_get peers' n ≡ slice_get peers n
-  none_of why is n =
-      elim (cases_Bool (n == place)) [
-        | inl t ↦
-            let here : n ≡ place = eqb-true n place t in
-            subst (λ m. slice_get peers' m ≡ slice_get peers m) (sym here) (subst (λ r. IsAt peers' place (load_edited w.before id deleted body r)) is w.at_then ∙ sym w.at)
-        | inr f ↦ w.others n (eqb-false n place f)
-      ]
+  pub none_of : (why : BaseFault) → edited w.before.db id parent deleted body ≡ Err why → (n : ℕ) (p : PeerValue) → IsAt peers' n p → IsAt peers n p
+  none_of why is n p at =
+      let now = subst (λ r. IsAt peers' place (load_edited w.before id deleted body r)) is w.at_then in
+      let x = was_at peers place w.before w.before peers' (record { from = w.at; to = w.at; from_then = now; to_then = now; others = λ k o _. w.others k o }) (λ q p. q ≡ p) refl (λ _. refl) n p at in
+      subst (IsAt peers n) x.2 x.1
 
   edited_agree : EditFits peers place id parent deleted body → (at : Id) → (r : Result (RevId × Option RevId) BaseFault) → edited w.before.db id parent deleted body ≡ r → KeepsAgreement peers peers' at
   edited_agree fits at (Ok e) is =
       wrote_agree peers place (edit_document id e deleted body) peers' (put_of e is) (fits w.before w.at e is)
       (λ p here. subst (λ (x : PeerValue). IsRooted x.db (edit_document id e deleted body)) (one_peer peers place w.before p w.at here) (edit_rooted w.before.db id parent deleted body e is))
       at
-  edited_agree fits at (Err why) is = same_agree peers peers' (none_of why is) at
+  edited_agree fits at (Err why) is = λ agree whole. (λ m n p q a b. agree m n p q (none_of why is m p a) (none_of why is n q b), λ n p here. whole n p (none_of why is n p here))
 
   pub edit_agree : EditFits peers place id parent deleted body → (at : Id) → KeepsAgreement peers peers' at
   edit_agree fits at = edited_agree fits at (edited w.before.db id parent deleted body) refl
