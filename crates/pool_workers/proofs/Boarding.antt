@@ -120,15 +120,3 @@ shown_one (Some b) a n o p q given ps gs ts qs h k free = (
   omega (arith, total_mid (λ (s : BoardSeat). s.settled) ps gs ts qs n k.0, h.0),
   λ none. let f = free none in omega (arith, total_mid (λ (s : BoardSeat). s.read) ps gs ts qs n (k.1 f.1), h.1 f.0),
 )
-
--- ---- a seat that was given out alone and returned
-
-pub back_last : (board : Option Board) (left gs ts : List BoardSeat) → AreSeated board (left ++ gs) → AreBack board gs ts → AreBack board (left ++ gs) (left ++ ts)
-back_last board left gs ts h k = back_append board left left gs ts (back_same board left (seated_parts board left gs h).0) k
-
-pub shown_last : (board : Option Board) (n : ℕ) (p q : Option Halt) (left gs ts : List BoardSeat) → HaveShown board n p gs ts → (q ≡ None → p ≡ None) → HaveShown board n q (left ++ gs) (left ++ ts)
-shown_last None n p q left gs ts h free = tt
-shown_last (Some b) n p q left gs ts h free = (
-  omega (arith, total_append (λ (s : BoardSeat). s.settled) left gs, total_append (λ (s : BoardSeat). s.settled) left ts, h.0),
-  λ none. omega (arith, total_append (λ (s : BoardSeat). s.read) left gs, total_append (λ (s : BoardSeat). s.read) left ts, h.1 (free none)),
-)

@@ -1,5 +1,5 @@
 -- Sums over the views of all passes.
-use Rattle.proof_prelude.proofs.{◌≡◌, ℕ, zero, suc, ◌+◌, ◌≤◌, ◌==◌, List, [], ◌∷◌, ◌++◌, set, sym, refl, ap, subst, arith, if◌then◌else◌, nat_tests, All-tail, All-head, All}
+use Rattle.proof_prelude.proofs.{◌≡◌, ℕ, zero, suc, ◌+◌, ◌≤◌, ◌==◌, List, [], ◌∷◌, ◌++◌, set, sym, refl, ap, subst, arith, if◌then◌else◌, nat_tests}
 use mathlib.Core.Option.{some, some-injective, some-ne-none}
 use lib.ListN.{get_elem?}
 use Rattle.pool_workers.specs.{total, weigh, times, once_below}
@@ -59,11 +59,3 @@ once_more x n = grind (arith, nat_tests)
 
 pub none_below : (x : ℕ) → once_below x 0 ≡ 0
 none_below x = grind (arith, nat_tests)
-
--- a property of each element holds for all but the first
-pub all_rest : {X : Type 0} (xs : List X) (x : X) (rest : List X) (P : X → Type 0) → xs ≡ x ∷ rest → All P xs → All P rest
-all_rest xs x rest P e h = All-tail P x rest (subst (λ l. All P l) e h)
-
--- a property of each element holds for the first
-pub all_first : {X : Type 0} (xs : List X) (x : X) (rest : List X) (P : X → Type 0) → xs ≡ x ∷ rest → All P xs → P x
-all_first xs x rest P e h = All-head P x rest (subst (λ l. All P l) e h)

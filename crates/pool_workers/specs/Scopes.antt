@@ -1,6 +1,6 @@
 -- This file defines what the threads of a run have at their start, and what is known after all threads have ended, as
 -- specified in docs/PROFILE.md, "The pool".
-use Rattle.std.specs.Prelude.{◌≡◌, ◌≤◌, ℕ, List, [], Option, IfSome, vec_capacity}
+use Rattle.std.specs.Prelude.{◌≡◌, ◌+◌, ◌-◌, ◌<◌, ◌≤◌, ◌++◌, ℕ, List, [], length, Option, IfSome, option_to_list, vec_len, vec_capacity}
 use Rattle.crossbeam_channel.specs.Claims.{view, IsSeatAt}
 use Rattle.crossbeam_channel.specs.Ends.{sends_on}
 use Rattle.progress_board.specs.declared.board.Board.{Board}
@@ -9,13 +9,14 @@ use Rattle.pool_workers.specs.declared.channels.Channels.{Channels}
 use Rattle.pool_workers.specs.declared.gate.Place.{Place}
 use Rattle.pool_workers.specs.declared.threads.Ended.{Ended}
 use Rattle.pool_workers.specs.declared.threads.Owned.{Owned}
-use Rattle.pool_workers.specs.declared.turns.Pair.{Pair}
-use Rattle.pool_workers.specs.Boards.{MayFill, AreSeats, AreBack, HaveShown, IsSeated}
-use Rattle.pool_workers.specs.Faults.{AllowsOn, Allows}
+use Rattle.pool_workers.specs.declared.threads.Rest.{Rest}
+use Rattle.pool_workers.specs.declared.worker.Roles.{Roles}
+use Rattle.pool_workers.specs.declared.worker.Worker.{Worker}
+use Rattle.pool_workers.specs.Boards.{MayFill, AreSeats, AreBack, HaveShown}
 use Rattle.pool_workers.specs.Gathered.{IsWhole, Tells, StopsWhere}
+use Rattle.pool_workers.specs.Idle.{fetchers_in, writers_in, seat_of}
 use Rattle.pool_workers.specs.Parcels.{parcel_view}
 use Rattle.pool_workers.specs.Windows.{window_view}
-use Rattle.pool_workers.specs.Workers.{FetcherKnows, WriterKnows}
 
 -- What the caller's thread has before the thread starts the workers. For each channel, the caller's thread has all
 -- 1,024 parts of the pass (the ghost right to use the channel), and both channels are unused. The caller's thread also
@@ -45,13 +46,55 @@ pub record HaveEnded {S L : Type 0} (channels : Channels S) (board : Option Boar
   pub back : AreBack board given seats
   pub shown : IfSome ended (λ e. HaveShown board e.all.amount e.written.stopped given seats)
 
--- A fetcher and a writer that share a thread have no window or parcel in progress. If the fetcher or the writer was
--- stopped, the reason is one that `AllowsOn` lists.
-pub record StandBy {S L : Type 0} (channels : Channels S) (board : Option Board) (may_stop : Place → Type 0)
-    (p : Pair S L) : Type 0 where
-  pub window_seat : IsSeatAt (sends_on channels.to_fetchers) p.fetcher.windows
-  pub parcel_seats : IsSeatAt (sends_on channels.to_writers) p.fetcher.parcels
-      × IsSeatAt (sends_on channels.to_writers) p.writer.parcels
-  pub knows : FetcherKnows [] p.fetcher × WriterKnows [] p.writer
-  pub halted : IfSome p.fetcher.stopped (Allows may_stop) × IfSome p.writer.stopped (AllowsOn (MayFill board) may_stop)
-  pub seated : IsSeated board p.writer.seat
+-- What the caller's thread has, and what it knows, while workers run. The running workers have `fetchers` fetchers,
+-- `writers` writers, and the seats `held`. The value r is what no running worker has, with the results of the workers
+-- that have ended.
+pub record HasRest {S L : Type 0} (channels : Channels S) (board : Option Board) (may_stop : Place → Type 0)
+    (workers : ℕ) (given : List BoardSeat) (fetchers writers : ℕ) (held : List BoardSeat) (r : Rest S L) : Type 0 where
+  pub window_seat : IsSeatAt (sends_on channels.to_fetchers) r.ended.windows
+  pub window_parts : (0 < (view r.ended.windows).parts) × ((view r.ended.windows).parts + fetchers ≡ 1024)
+  pub parcel_seat : IsSeatAt (sends_on channels.to_writers) r.ended.parcels
+  pub parcel_parts : (0 < (view r.ended.parcels).parts) × ((view r.ended.parcels).parts + (fetchers + writers) ≡ 1024)
+  pub all : r.ended.all.parts + writers ≡ workers
+  pub counts : vec_len r.ended.fetched.counts + fetchers ≤ vec_capacity r.ended.fetched.counts
+  pub tells : Tells r.ended
+  pub halted : StopsWhere (MayFill board) may_stop r.ended
+  pub back : AreBack board given (r.seats.items ++ held)
+  pub shown : HaveShown board r.ended.all.amount r.ended.written.stopped given (r.seats.items ++ held)
+  pub room : length (r.seats.items ++ held) ≤ vec_capacity r.seats
+
+-- What the caller's thread has, and what it knows, after it has started the workers whose numbers are below `number`, if
+-- all these workers still run. No window has been read, and no document has been settled.
+pub record IsStarting {S L : Type 0} (channels : Channels S) (board : Option Board) (may_stop : Place → Type 0)
+    (roles : Roles) (given : List BoardSeat) (number fetchers writers : ℕ) (held : List BoardSeat) (r : Rest S L)
+    : Type 0 where
+  pub rest : HasRest channels board may_stop roles.workers given fetchers writers held r
+  pub few_fetchers : fetchers ≤ number - roles.alone
+  pub few_writers : writers ≤ number
+  pub seated : AreSeats board number roles.workers r.seats.items
+  pub unread : view r.ended.windows ≡ window_view (view r.ended.windows).parts 1 0 []
+  pub unsettled : r.ended.all.amount ≡ 0
+  pub uncounted : (vec_len r.ended.fetched.counts ≡ 0) × (roles.workers ≤ vec_capacity r.ended.fetched.counts)
+
+-- The caller's thread has started the workers below the given number, and may start the next one.
+abbrev pub MayStart : {S L : Type 0} → Channels S → Option Board → (Place → Type 0) → Roles → ℕ → Rest S L → Type 0
+MayStart channels board may_stop roles number r =
+    (given : List BoardSeat) × (held : List BoardSeat) × (fetchers : ℕ) × (writers : ℕ)
+    × IsStarting channels board may_stop roles given number fetchers writers held r
+
+-- The worker w has the given number and has started: the caller's thread had r before and has t now.
+abbrev pub HasStarted : {S L : Type 0} → Channels S → Option Board → (Place → Type 0) → Roles → ℕ → Rest S L → Rest S L
+    → Worker S L → Type 0
+HasStarted channels board may_stop roles number r t w =
+    (given : List BoardSeat) (held : List BoardSeat) (fetchers : ℕ) (writers : ℕ)
+    → IsStarting channels board may_stop roles given number fetchers writers held r
+    → IsStarting channels board may_stop roles given (number + 1) (fetchers + fetchers_in w) (writers + writers_in w)
+    (option_to_list (seat_of w) ++ held) t
+
+-- The worker with the given number has ended on the caller's thread, which had r before and has t now.
+abbrev pub HasReturned : {S L : Type 0} → Channels S → Option Board → (Place → Type 0) → Roles → ℕ → Rest S L
+    → Rest S L → Type 0
+HasReturned channels board may_stop roles number r t =
+    (given : List BoardSeat) (held : List BoardSeat) (fetchers : ℕ) (writers : ℕ)
+    → IsStarting channels board may_stop roles given number fetchers writers held r
+    → HasRest channels board may_stop roles.workers given fetchers writers held t

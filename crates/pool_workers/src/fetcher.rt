@@ -13,8 +13,8 @@ use crate::context::Context;
 use crate::fault::Halt;
 use crate::gate::{Gate, Place, Turn};
 use crate::messages::{Found, Paged};
-use crate::parcels::{ParcelMessage, ParcelPass, ParcelSender, Sends};
-use crate::windows::{Takes, WindowMessage, WindowPass};
+use crate::parcels::{ParcelCut, ParcelMessage, ParcelPass, ParcelSender, Sends};
+use crate::windows::{Takes, WindowCut, WindowMessage, WindowPass};
 use couch_base::{Asked, MOST_SEQUENCE};
 use repl_target::WriteFilter;
 use std::alloc::AllocError;
@@ -144,7 +144,7 @@ impl<S: SourceBrand> Fetcher<S> {
     }
 
     /// Sends the end message of the channel of parcels to one writer.
-    fn tell_end<R: Wait>(&mut self, rt: &R, parcels: &ParcelSender<S>)
+    pub fn tell_end<R: Wait>(&mut self, rt: &R, parcels: &ParcelSender<S>)
         requires seat { IsSeatAt (sends_on parcels.now) self.old.parcels }
         requires knows { FetcherKnows [] self.old }
         ensures seat { IsSeatAt (sends_on parcels.now) self.new.parcels }
@@ -214,6 +214,34 @@ impl<F: WriteFilter, S: SourceBrand, T: TargetBrand<F>, L: Ledger, G: Gate, R: W
         }
     }
 
+    /// Creates a fetcher. The fetcher gets a part of `windows` and a part of `parcels`, and may therefore use both
+    /// channels.
+    pub fn fetcher_here(
+        &self,
+        windows: &mut WindowPass<S>,
+        parcels: &mut ParcelPass<S>,
+    ) -> Fetcher<S>
+        requires windows { IsSeatAt (sends_on self.now.channels.now.to_fetchers) windows.old
+            × (1 < (view windows.old).parts) }
+        requires parcels { IsSeatAt (sends_on self.now.channels.now.to_writers) parcels.old
+            × (1 < (view parcels.old).parts) }
+        ensures window_seats { IsSeatAt (sends_on self.now.channels.now.to_fetchers) windows.new
+            × IsSeatAt (sends_on self.now.channels.now.to_fetchers) result.windows }
+        ensures windows { view windows.new
+            ≡ window_view ((view windows.old).parts - 1) (view windows.old).reads (view windows.old).count
+            (view windows.old).taken }
+        ensures parcel_seats { IsSeatAt (sends_on self.now.channels.now.to_writers) parcels.new
+            × IsSeatAt (sends_on self.now.channels.now.to_writers) result.parcels }
+        ensures parcels { view parcels.new
+            ≡ parcel_view ((view parcels.old).parts - 1) (view parcels.old).sent (view parcels.old).got }
+        ensures knows { FetcherKnows [] result }
+        ensures free { result.stopped ≡ None }
+    {
+        let its_windows = self.channels.to_fetchers.another::<WindowCut>(windows);
+        let its_parcels = self.channels.to_writers.another::<ParcelCut>(parcels);
+        Fetcher::new(its_windows, its_parcels)
+    }
+
     /// Receives one message. Returns false if the fetcher received the end message of the channel of windows.
     pub fn take_window(&self, fetcher: &mut Fetcher<S>) -> bool
         requires source { S.source ≡ self.now.source.now.1.db }
@@ -240,28 +268,5 @@ impl<F: WriteFilter, S: SourceBrand, T: TargetBrand<F>, L: Ledger, G: Gate, R: W
             Ok(WindowMessage::End) => false,
             Err(_) => false,
         }
-    }
-
-    /// Receives windows until the end message of the channel of windows, fetches each window, and sends the window's
-    /// parcel. After the last window, the call sends the end message of the channel of parcels.
-    pub fn fetch_all(&self, windows: WindowPass<S>, parcels: ParcelPass<S>) -> Fetcher<S>
-        requires source { S.source ≡ self.now.source.now.1.db }
-        requires windows { IsSeatAt (receives_on self.now.channels.now.from_reader) windows
-            × (view windows ≡ window_view 1 0 0 []) }
-        requires parcels { IsSeatAt (sends_on self.now.channels.now.to_writers) parcels
-            × (view parcels ≡ parcel_view 1 [] []) }
-        ensures window_seat { IsSeatAt (receives_on self.now.channels.now.from_reader) result.windows }
-        ensures parcel_seat { IsSeatAt (sends_on self.now.channels.now.to_writers) result.parcels }
-        ensures knows { FetcherKnows [] result }
-        ensures halted { IfSome result.stopped (Allows (G.may_stop self.now.gate.now)) }
-    {
-        let mut fetcher = Fetcher::new(windows, parcels);
-        for _ in self.rt.forever() {
-            if !self.take_window(&mut fetcher) {
-                break;
-            }
-        }
-        fetcher.tell_end(self.rt, &self.channels.to_writers);
-        fetcher
     }
 }

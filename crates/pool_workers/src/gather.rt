@@ -1,12 +1,15 @@
 //! Collects the results of the workers after they have ended.
-ghost use Rattle.std.specs.Prelude.{◌≡◌, ◌+◌, ◌<◌, ◌≤◌, ◌++◌, [], length, None, IfSome, vec_len, vec_capacity, option_copied, option_to_list};
+ghost use Rattle.std.specs.Prelude.{◌≡◌, ℕ, ◌+◌, ◌<◌, ◌≤◌, ◌++◌, [], List, length, Option, None, IfSome, vec_len, vec_capacity, option_copied, option_to_list};
 ghost use Rattle.std.specs.List.{All};
 ghost use Rattle.crossbeam_channel.specs.Claims.{view, IsSeatAt};
 ghost use Rattle.crossbeam_channel.specs.Ends.{sends_on};
+ghost use Rattle.progress_board.specs.declared.seat.BoardSeat.{BoardSeat};
 ghost use Rattle.pool_workers.specs.Workers.{FetcherKnows, WriterKnows};
-ghost use Rattle.pool_workers.specs.Boards.{MayFill, AreBack, HaveShown, AreSeated, held};
-ghost use Rattle.pool_workers.specs.Faults.{AllowsOn, Allows};
+ghost use Rattle.pool_workers.specs.Boards.{held};
 ghost use Rattle.pool_workers.specs.Gathered.{FetchedKnows, WrittenKnows, IsOneOf};
+ghost use Rattle.pool_workers.specs.Idle.{IsIdle, Shows, fetchers_in, writers_in, seat_of};
+ghost use Rattle.pool_workers.specs.Scopes.{HasRest, IsReady, IsStarting};
+ghost use Rattle.pool_workers.specs.Sums.{total};
 
 use crate::brands::{SourceBrand, TargetBrand};
 use crate::channels::Channels;
@@ -16,11 +19,13 @@ use crate::fetcher::Fetcher;
 use crate::gate::Gate;
 use crate::parcels::{ParcelCut, ParcelPass};
 use crate::show::give_back;
-use crate::start::{FetcherHandle, WriterHandle};
+use crate::threads::{Ended, Owned, Rest};
 use crate::windows::{WindowCut, WindowPass};
+use crate::worker::{Roles, Worker, WorkerHandle};
 use crate::writer::Writer;
 use progress_board::BoardSeat;
 use repl_target::WriteFilter;
+use std::sync::Wait;
 use std::sync::ledger::{Ledger, Share};
 use std::thread::Threads;
 
@@ -61,17 +66,6 @@ fn count_up(
 }
 
 impl FetchedAll {
-    /// Creates a `FetchedAll` to which no fetcher's results have been added yet.
-    pub fn new(counts: Vec<u64>) -> FetchedAll
-        ensures { result ≡ record { counts = counts; sent = 0; stopped = None } }
-    {
-        FetchedAll {
-            counts,
-            sent: 0,
-            stopped: None,
-        }
-    }
-
     /// Adds one fetcher.
     pub fn take_in<S: SourceBrand>(
         &mut self,
@@ -120,16 +114,6 @@ impl FetchedAll {
 }
 
 impl WrittenAll {
-    /// Creates a `WrittenAll` to which no writer's results have been added yet.
-    pub fn new() -> WrittenAll
-        ensures { result ≡ record { got = 0; stopped = None } }
-    {
-        WrittenAll {
-            got: 0,
-            stopped: None,
-        }
-    }
-
     /// Adds one writer.
     pub fn take_in<S: SourceBrand, L: Ledger>(
         &mut self,
@@ -172,7 +156,7 @@ impl WrittenAll {
     }
 }
 
-impl<F: WriteFilter, S: SourceBrand, T: TargetBrand<F>, L: Ledger, G: Gate, R: Threads> Context<
+impl<F: WriteFilter, S: SourceBrand, T: TargetBrand<F>, L: Ledger, G: Gate, R: Wait> Context<
     '_,
     F,
     S,
@@ -181,86 +165,122 @@ impl<F: WriteFilter, S: SourceBrand, T: TargetBrand<F>, L: Ledger, G: Gate, R: T
     G,
     R,
 > {
-    /// Joins the fetchers' threads and collects their results.
-    pub fn join_fetchers(
-        &self,
-        handles: Vec<FetcherHandle<'_, S, G>>,
-        counts: Vec<u64>,
-        windows: &mut WindowPass<S>,
-        parcels: &mut ParcelPass<S>,
-    ) -> FetchedAll
-        requires room { vec_len handles ≤ vec_capacity counts }
-        requires counts { counts.items ≡ [] }
-        requires promised { All
-            (λ h. (h.promise.channels.now ≡ self.now.channels.now) × (h.promise.gate.now ≡ self.now.gate.now))
-            handles.items }
-        requires windows { IsSeatAt (sends_on self.now.channels.now.to_fetchers) windows.old
-            × (0 < (view windows.old).parts) × ((view windows.old).taken ≡ []) }
-        requires parcels { IsSeatAt (sends_on self.now.channels.now.to_writers) parcels.old
-            × (0 < (view parcels.old).parts) × ((view parcels.old).sent ≡ []) }
-        ensures seats { IsSeatAt (sends_on self.now.channels.now.to_fetchers) windows.new
-            × IsSeatAt (sends_on self.now.channels.now.to_writers) parcels.new }
-        ensures windows { ((view windows.new).parts ≡ (view windows.old).parts + vec_len handles.entry)
-            × ((view windows.new).reads ≡ (view windows.old).reads)
-            × ((view windows.new).count ≡ (view windows.old).count) }
-        ensures parcels { ((view parcels.new).parts ≡ (view parcels.old).parts + vec_len handles.entry)
-            × ((view parcels.new).got ≡ (view parcels.old).got) }
-        ensures len { vec_len result.counts ≡ vec_len handles.entry }
-        ensures knows { FetchedKnows (view windows.new) (view parcels.new) result }
-        ensures halted { IfSome result.stopped (Allows (G.may_stop self.now.gate.now)) }
+    /// Returns what the caller's thread owns before any worker has started, with no result of a worker.
+    pub fn before_workers(&self, roles: Roles, owned: Owned<S, L>) -> Rest<S, L>
+        requires workers { roles.workers ≤ 64 }
+        requires owned { IsReady self.now.channels.now (option_copied self.now.board) roles.workers owned }
+        ensures starting { IsStarting self.now.channels.now (option_copied self.now.board)
+            (G.may_stop self.now.gate.now) roles result.seats.items 0 0 0 [] result }
+        ensures seats { result.seats ≡ owned.seats }
     {
-        let mut fetched = FetchedAll {
+        let Owned {
             counts,
-            sent: 0,
-            stopped: None,
+            windows,
+            parcels,
+            all,
+            seats,
+        } = owned;
+        let ended = Ended {
+            windows,
+            parcels,
+            all,
+            read: None,
+            fetched: FetchedAll {
+                counts,
+                sent: 0,
+                stopped: None,
+            },
+            written: WrittenAll {
+                got: 0,
+                stopped: None,
+            },
         };
-        for handle in handles {
-            let one = handle.join(self.rt);
-            fetched.take_in(self.channels, windows, parcels, one);
-        }
-        fetched
+        Rest { ended, seats }
     }
 
-    /// Joins the writers' threads and collects their results. The call joins the threads in reverse order, and thereby
-    /// returns the writers' seats (access tokens to the progress board) in their original order.
-    pub fn join_writers(
-        &self,
-        handles: Vec<WriterHandle<'_, S, L, G>>,
-        parcels: &mut ParcelPass<S>,
-        all: &mut Share<L>,
-        seats: &mut Vec<BoardSeat>,
-    ) -> WrittenAll
+    /// Adds the results of a worker that has ended, and takes back the worker's parts and its seat.
+    pub fn take_in(&self, rest: &mut Rest<S, L>, worker: Worker<S, L>)
+        requires idle { IsIdle self.now.channels.now (option_copied self.now.board) (G.may_stop self.now.gate.now)
+            worker }
+        requires rest { (workers : ℕ) × (given : List BoardSeat) × (held : List BoardSeat) × (fetchers : ℕ)
+            × (writers : ℕ) × (seat : Option BoardSeat) × Shows (option_copied self.now.board) seat worker
+            × HasRest self.now.channels.now (option_copied self.now.board) (G.may_stop self.now.gate.now) workers given
+            (fetchers + fetchers_in worker) (writers + writers_in worker) (option_to_list seat ++ held) rest.old }
+        ensures { (workers : ℕ) (given : List BoardSeat) (held : List BoardSeat) (fetchers : ℕ) (writers : ℕ)
+            (seat : Option BoardSeat) → Shows (option_copied self.now.board) seat worker
+            → HasRest self.now.channels.now (option_copied self.now.board) (G.may_stop self.now.gate.now) workers given
+            (fetchers + fetchers_in worker) (writers + writers_in worker) (option_to_list seat ++ held) rest.old
+            → HasRest self.now.channels.now (option_copied self.now.board) (G.may_stop self.now.gate.now) workers given
+            fetchers writers held rest.new }
+    {
+        match worker {
+            Worker::Fetches(fetcher) => {
+                rest.ended.fetched.take_in(
+                    self.channels,
+                    &mut rest.ended.windows,
+                    &mut rest.ended.parcels,
+                    fetcher,
+                );
+            }
+            Worker::Writes(writer) => {
+                rest.ended.written.take_in(
+                    self.channels,
+                    &mut rest.ended.parcels,
+                    &mut rest.ended.all,
+                    &mut rest.seats,
+                    writer,
+                );
+            }
+            Worker::Both(fetcher, writer) => {
+                rest.ended.fetched.take_in(
+                    self.channels,
+                    &mut rest.ended.windows,
+                    &mut rest.ended.parcels,
+                    fetcher,
+                );
+                rest.ended.written.take_in(
+                    self.channels,
+                    &mut rest.ended.parcels,
+                    &mut rest.ended.all,
+                    &mut rest.seats,
+                    writer,
+                );
+            }
+        }
+    }
+}
+
+impl<
+    F: WriteFilter,
+    S: SourceBrand,
+    T: TargetBrand<F>,
+    L: Ledger,
+    G: Gate,
+    R: Threads + Wait,
+> Context<'_, F, S, T, L, G, R> {
+    /// Joins the workers' threads, and collects the results of all workers. The call joins the threads in reverse
+    /// order, and thereby returns the seats in their original order.
+    pub fn join_all(&self, handles: Vec<WorkerHandle<'_, S, L, G>>, rest: &mut Rest<S, L>)
         requires promised { All
             (λ h. (h.promise.channels.now ≡ self.now.channels.now) × (h.promise.gate.now ≡ self.now.gate.now)
             × (option_copied h.promise.board ≡ option_copied self.now.board)) handles.items }
-        requires parcels { IsSeatAt (sends_on self.now.channels.now.to_writers) parcels.old
-            × (0 < (view parcels.old).parts) × ((view parcels.old).got ≡ []) }
-        requires all { all.old.amount ≡ 0 }
-        requires seats { AreSeated (option_copied self.now.board)
-            (seats.old.items ++ held (λ h. h.promise.seat.value) handles.items) }
-        requires room { length (seats.old.items ++ held (λ h. h.promise.seat.value) handles.items)
-            ≤ vec_capacity seats.old }
-        ensures seat { IsSeatAt (sends_on self.now.channels.now.to_writers) parcels.new }
-        ensures parcels { ((view parcels.new).parts ≡ (view parcels.old).parts + vec_len handles.entry)
-            × ((view parcels.new).sent ≡ (view parcels.old).sent) }
-        ensures all { all.new.parts ≡ all.old.parts + vec_len handles.entry }
-        ensures knows { WrittenKnows (view parcels.new) all.new.amount result }
-        ensures halted { IfSome result.stopped
-            (AllowsOn (MayFill (option_copied self.now.board)) (G.may_stop self.now.gate.now)) }
-        ensures back { AreBack (option_copied self.now.board)
-            (seats.old.items ++ held (λ h. h.promise.seat.value) handles.entry.items) seats.new.items }
-        ensures shown { HaveShown (option_copied self.now.board) all.new.amount result.stopped
-            (seats.old.items ++ held (λ h. h.promise.seat.value) handles.entry.items) seats.new.items }
+        requires rest { (workers : ℕ) × (given : List BoardSeat)
+            × HasRest self.now.channels.now (option_copied self.now.board) (G.may_stop self.now.gate.now) workers given
+            (total (λ h. fetchers_in h.promise.worker.value) handles.items)
+            (total (λ h. writers_in h.promise.worker.value) handles.items)
+            (held (λ h. seat_of h.promise.worker.value) handles.items) rest.old }
+        ensures { (workers : ℕ) (given : List BoardSeat)
+            → HasRest self.now.channels.now (option_copied self.now.board) (G.may_stop self.now.gate.now) workers given
+            (total (λ h. fetchers_in h.promise.worker.value) handles.entry.items)
+            (total (λ h. writers_in h.promise.worker.value) handles.entry.items)
+            (held (λ h. seat_of h.promise.worker.value) handles.entry.items) rest.old
+            → HasRest self.now.channels.now (option_copied self.now.board) (G.may_stop self.now.gate.now) workers given
+            0 0 [] rest.new }
     {
-        let mut written = WrittenAll {
-            got: 0,
-            stopped: None,
-        };
         let mut left = handles;
         while let Some(handle) = left.pop() {
-            let one = handle.join(self.rt);
-            written.take_in(self.channels, parcels, all, seats, one);
+            let worker = handle.join(self.rt);
+            self.take_in(rest, worker);
         }
-        written
     }
 }

@@ -6,7 +6,6 @@
 mod brands;
 mod channels;
 mod context;
-mod crew;
 mod ends;
 mod fault;
 mod fetcher;
@@ -14,7 +13,6 @@ mod gate;
 mod gather;
 mod given_target;
 mod messages;
-mod pairs;
 mod parcels;
 mod reader;
 mod run_target;
@@ -24,6 +22,7 @@ mod threads;
 mod totals;
 mod turns;
 mod windows;
+mod worker;
 mod writer;
 
 pub use brands::{SourceBrand, TargetBrand};

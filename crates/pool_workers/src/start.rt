@@ -1,33 +1,27 @@
 //! Starting the workers.
-ghost use Rattle.std.specs.Prelude.{◌≡◌, ℕ, ◌+◌, ◌-◌, ◌<◌, ◌≤◌, ◌++◌, [], None, IfSome, vec_len, vec_capacity, option_copied, option_to_list};
+ghost use Rattle.std.specs.Prelude.{◌≡◌, ◌+◌, ◌<◌, ◌≤◌, [], None, IfSome, vec_len, option_copied};
 ghost use Rattle.std.specs.List.{All};
 ghost use Rattle.crossbeam_channel.specs.Claims.{view, IsSeatAt};
 ghost use Rattle.crossbeam_channel.specs.Ends.{sends_on};
-ghost use Rattle.pool_workers.specs.Boards.{AreSeats, AreBack, held};
-ghost use Rattle.pool_workers.specs.Parcels.{parcel_view};
+ghost use Rattle.pool_workers.specs.Boards.{held};
+ghost use Rattle.pool_workers.specs.Idle.{IsIdle, Shows, Keeps, fetchers_in, writers_in, seat_of};
+ghost use Rattle.pool_workers.specs.Scopes.{HasRest, IsStarting, MayStart, HasStarted, HasReturned};
+ghost use Rattle.pool_workers.specs.Sums.{total};
 ghost use Rattle.pool_workers.specs.Windows.{window_view};
 
 use crate::brands::{SourceBrand, TargetBrand};
 use crate::context::Context;
-use crate::crew::{FetcherPromise, WriterPromise};
-use crate::ends::end_parcels;
-use crate::fetcher::Fetcher;
+use crate::ends::{end_parcels, end_windows};
 use crate::gate::Gate;
-use crate::parcels::{ParcelCut, ParcelPass};
-use crate::show::give_back;
-use crate::windows::{WindowCut, WindowPass};
-use crate::writer::Writer;
-use progress_board::BoardSeat;
+use crate::parcels::ParcelPass;
+use crate::threads::Rest;
+use crate::windows::WindowPass;
+use crate::worker::{Roles, Worker, WorkerHandle, WorkerPromise};
 use repl_target::WriteFilter;
+use std::snapshot::Snapshot;
 use std::sync::Wait;
-use std::sync::ledger::{Ledger, Share};
-use std::thread::{PromisedHandle, Scope};
-
-/// A started fetcher.
-pub type FetcherHandle<'e, S, G> = PromisedHandle<Fetcher<S>, FetcherPromise<'e, S, G>>;
-
-/// A started writer.
-pub type WriterHandle<'e, S, L, G> = PromisedHandle<Writer<S, L>, WriterPromise<'e, S, G>>;
+use std::sync::ledger::Ledger;
+use std::thread::Scope;
 
 impl<
     'e,
@@ -38,172 +32,145 @@ impl<
     G: Gate + Sync,
     R: Wait + Sync,
 > Context<'e, F, S, T, L, G, R> {
-    /// For each channel, splits a new pass (a ghost right to use the channel) off the given pass. The call then starts
-    /// a fetcher, which owns the new pass of each channel and may therefore use both channels.
-    fn spawn_fetcher<'s, E>(
-        &'e self,
-        scope: &Scope<'s, E>,
+    /// Sends the end messages that end the workers with the numbers below `running` (`Roles`). A worker that receives no
+    /// end message would run forever, so the counts must be exact:
+    ///
+    /// - Each fetcher takes one end message from the channel of windows.
+    /// - Each writer without a fetcher takes one end message from the channel of parcels.
+    /// - Each fetcher without a writer sends one end message to the writers when it ends (`take_turn`). The call sends
+    ///   only the end messages of the channel of parcels that no fetcher sends.
+    /// - A worker with both roles ends when its fetcher ends, so its writer takes no end message.
+    ///
+    /// If no window has been read, both channels have capacity for all end messages, because each channel has capacity
+    /// for two messages per fetcher.
+    pub fn end_workers(
+        &self,
+        roles: Roles,
+        running: usize,
         windows: &mut WindowPass<S>,
         parcels: &mut ParcelPass<S>,
-    ) -> Option<FetcherHandle<'e, S, G>>
-    where
-        'e: 's,
-        requires source { S.source ≡ self.now.source.now.1.db }
+    )
+        requires roles { (roles.alone ≤ roles.workers) × (roles.workers ≤ 64) }
+        requires running { running ≤ roles.alone + roles.workers }
         requires windows { IsSeatAt (sends_on self.now.channels.now.to_fetchers) windows.old
-            × (1 < (view windows.old).parts) }
+            × (0 < (view windows.old).parts) }
         requires parcels { IsSeatAt (sends_on self.now.channels.now.to_writers) parcels.old
-            × (1 < (view parcels.old).parts) }
-        ensures window_seat { IsSeatAt (sends_on self.now.channels.now.to_fetchers) windows.new }
-        ensures windows { view windows.new
-            ≡ window_view ((view windows.old).parts - 1) (view windows.old).reads (view windows.old).count
-            (view windows.old).taken }
-        ensures parcel_seat { IsSeatAt (sends_on self.now.channels.now.to_writers) parcels.new }
-        ensures parcels { view parcels.new
-            ≡ parcel_view ((view parcels.old).parts - 1) (view parcels.old).sent (view parcels.old).got }
-        ensures promised { IfSome result
-            (λ h. (h.promise.channels.now ≡ self.now.channels.now) × (h.promise.gate.now ≡ self.now.gate.now)) }
-    {
-        let window_pass = self.channels.to_fetchers.another::<WindowCut>(windows);
-        let parcel_pass = self.channels.to_writers.another::<ParcelCut>(parcels);
-        self.start_fetcher(scope, window_pass, parcel_pass)
-    }
-
-    /// Starts the fetchers. If a thread cannot be created or an allocation fails, the call starts fewer workers than
-    /// requested.
-    pub fn start_fetchers<'s, E>(
-        &'e self,
-        scope: &Scope<'s, E>,
-        workers: usize,
-        windows: &mut WindowPass<S>,
-        parcels: &mut ParcelPass<S>,
-    ) -> Vec<FetcherHandle<'e, S, G>>
-    where
-        'e: 's,
-        requires source { S.source ≡ self.now.source.now.1.db }
-        requires workers { workers ≤ 64 }
-        requires windows { IsSeatAt (sends_on self.now.channels.now.to_fetchers) windows.old
-            × (view windows.old ≡ window_view (view windows.old).parts 1 0 []) × (64 < (view windows.old).parts) }
-        requires parcels { IsSeatAt (sends_on self.now.channels.now.to_writers) parcels.old
-            × (view parcels.old ≡ parcel_view (view parcels.old).parts [] []) × (64 < (view parcels.old).parts) }
+            × (0 < (view parcels.old).parts) }
         ensures windows { IsSeatAt (sends_on self.now.channels.now.to_fetchers) windows.new
-            × (view windows.new ≡ window_view (view windows.new).parts 1 0 []) × (0 < (view windows.new).parts) }
+            × (view windows.new ≡ view windows.old) }
         ensures parcels { IsSeatAt (sends_on self.now.channels.now.to_writers) parcels.new
-            × (view parcels.new ≡ parcel_view (view parcels.new).parts [] []) × (0 < (view parcels.new).parts) }
-        ensures most { vec_len result ≤ workers }
-        ensures whole_windows { vec_len result ≡ workers
-            → (view windows.new).parts + workers ≡ (view windows.old).parts }
-        ensures whole_parcels { vec_len result ≡ workers
-            → (view parcels.new).parts + workers ≡ (view parcels.old).parts }
-        ensures promised { All
-            (λ h. (h.promise.channels.now ≡ self.now.channels.now) × (h.promise.gate.now ≡ self.now.gate.now))
-            result.items }
+            × (view parcels.new ≡ view parcels.old) }
     {
-        let mut started = Vec::new(self.alloc);
-        for _i in 0..workers {
-            if started.reserve(1).is_err() {
-                break;
-            }
-            match self.spawn_fetcher(scope, windows, parcels) {
-                Some(handle) => started.push_reserved(handle),
-                None => break,
-            }
-        }
-        started
+        // The workers with the numbers from `alone` on are fetchers.
+        let fetchers = running.saturating_sub(roles.alone);
+        // The workers with the numbers below `alone` are writers without a fetcher.
+        let lone_writers = running.min(roles.alone);
+        // The workers with the numbers from `workers` on are fetchers without a writer.
+        let lone_fetchers = running.saturating_sub(roles.workers);
+        end_windows(self.rt, self.channels, windows, fetchers);
+        end_parcels(
+            self.rt,
+            self.channels,
+            parcels,
+            lone_writers - lone_fetchers,
+        );
     }
 
-    /// Creates and starts a writer (`start_writer`). The writer gets a pass (the ghost right to use a channel) of the
-    /// channel of parcels, and a part of the ledger (a ghost count of settled documents). If the run has a progress
-    /// board, the writer also gets the last seat in `seats` (an access token to the progress board). The argument
-    /// `others` is the number of writers that already run. If a thread cannot be created, the call returns `None`, and
-    /// the seat stays in `seats`.
-    fn spawn_writer<'s, E>(
+    /// Creates the worker with the given number, and starts the worker on a thread of its own.
+    ///
+    /// Returns `None` if the thread cannot be created. Before the call returns `None`, it sends the end messages that
+    /// the running workers and the new worker need. The call also runs the new worker on this thread until the new
+    /// worker takes its end message, and takes back what the new worker had (`take_in`).
+    fn start_worker<'s, E>(
         &'e self,
         scope: &Scope<'s, E>,
-        others: usize,
-        parcels: &mut ParcelPass<S>,
-        all: &mut Share<L>,
-        seats: &mut Vec<BoardSeat>,
-    ) -> Option<WriterHandle<'e, S, L, G>>
+        roles: Roles,
+        number: usize,
+        rest: &mut Rest<S, L>,
+    ) -> Option<WorkerHandle<'e, S, L, G>>
     where
         'e: 's,
         requires source { S.source ≡ self.now.source.now.1.db }
-        requires parcels { IsSeatAt (sends_on self.now.channels.now.to_writers) parcels.old
-            × (1 < (view parcels.old).parts) }
-        requires all { (0 < all.old.parts) × (all.old.amount ≡ 0) }
-        requires seats { (workers : ℕ) × (others < workers) × (workers ≤ 64)
-            × AreSeats (option_copied self.now.board) others workers seats.old.items }
-        ensures parcel_seat { IsSeatAt (sends_on self.now.channels.now.to_writers) parcels.new }
-        ensures parcels { view parcels.new
-            ≡ parcel_view ((view parcels.old).parts - 1) (view parcels.old).sent (view parcels.old).got }
-        ensures all { (all.new.parts + 1 ≡ all.old.parts) × (all.new.amount ≡ 0) }
+        requires roles { (roles.alone ≤ roles.workers) × (roles.workers ≤ 64) }
+        requires number { number < roles.alone + roles.workers }
+        requires starting { MayStart self.now.channels.now (option_copied self.now.board)
+            (G.may_stop self.now.gate.now) roles number rest.old }
         ensures promised { IfSome result
             (λ h. (h.promise.channels.now ≡ self.now.channels.now) × (h.promise.gate.now ≡ self.now.gate.now)
             × (option_copied h.promise.board ≡ option_copied self.now.board)) }
-        ensures seats { IfSome result
-            (λ h. seats.old.items ≡ seats.new.items ++ option_to_list h.promise.seat.value) }
-        ensures left { IfSome result
-            (λ _. (workers : ℕ) → others < workers
-            → AreSeats (option_copied self.now.board) others workers seats.old.items
-            → AreSeats (option_copied self.now.board) (others + 1) workers seats.new.items) }
-        ensures back { result ≡ None → AreBack (option_copied self.now.board) seats.old.items seats.new.items }
-        ensures capacity { vec_capacity seats.new ≡ vec_capacity seats.old }
+        ensures started { IfSome result
+            (λ h. HasStarted self.now.channels.now (option_copied self.now.board) (G.may_stop self.now.gate.now) roles
+            number rest.old rest.new h.promise.worker.value) }
+        ensures returned { result ≡ None → HasReturned self.now.channels.now (option_copied self.now.board)
+            (G.may_stop self.now.gate.now) roles number rest.old rest.new }
     {
-        let parcel_pass = self.channels.to_writers.another::<ParcelCut>(parcels);
-        let share = all.split_off(1, 0);
-        let seat = seats.pop();
-        match self.start_writer(scope, others, parcels, parcel_pass, share, seat) {
+        let context = self;
+        let worker = self.new_worker(roles, number, rest);
+        let promise = WorkerPromise {
+            channels: self.channels,
+            gate: self.gate,
+            board: self.board,
+            worker: Snapshot::of(&worker),
+        };
+        let work = move || -> Worker<S, L>
+            requires source { S.source ≡ context.now.source.now.1.db }
+            requires idle { IsIdle context.now.channels.now (option_copied context.now.board)
+                (G.may_stop context.now.gate.now) worker }
+            requires shows { Shows (option_copied context.now.board) (seat_of worker) worker }
+            ensures { Keeps context.entry.now.channels.now (option_copied context.entry.now.board)
+                (G.may_stop context.entry.now.gate.now) worker result }
+        { context.run_worker(worker) };
+        match scope.spawn_with(promise, work) {
             Ok(handle) => Some(handle),
-            Err(seat) => {
-                give_back(seats, seat);
+            Err(refused) => {
+                // The workers below `number` run on their threads, and the new worker runs on this thread, so
+                // `number + 1` workers must end.
+                self.end_workers(
+                    roles,
+                    number + 1,
+                    &mut rest.ended.windows,
+                    &mut rest.ended.parcels,
+                );
+                let worker = (refused.value)();
+                self.take_in(rest, worker);
                 None
             }
         }
     }
 
-    /// Starts `workers` writers. If the run has a progress board, each writer gets a seat (an access token to the
-    /// progress board), and the first writer gets the last seat in `seats`. If a thread cannot be created or an
-    /// allocation fails, the call starts fewer than `workers` writers. If the call starts fewer than `workers` writers,
-    /// it sends an end message on the channel of parcels to each started writer.
-    pub fn start_writers<'s, E>(
+    /// Starts all workers of a run, in the order of their numbers. If an allocation fails, the call starts no worker,
+    /// and therefore sends no end message. If a thread cannot be created, the call starts no further worker, and has sent
+    /// the end messages that the started workers need (`start_worker`).
+    pub fn start_all<'s, E>(
         &'e self,
         scope: &Scope<'s, E>,
-        workers: usize,
-        parcels: &mut ParcelPass<S>,
-        all: &mut Share<L>,
-        seats: &mut Vec<BoardSeat>,
-    ) -> Vec<WriterHandle<'e, S, L, G>>
+        roles: Roles,
+        rest: &mut Rest<S, L>,
+    ) -> Vec<WorkerHandle<'e, S, L, G>>
     where
         'e: 's,
         requires source { S.source ≡ self.now.source.now.1.db }
-        requires workers { workers ≤ 64 }
-        requires parcels { IsSeatAt (sends_on self.now.channels.now.to_writers) parcels.old
-            × (view parcels.old ≡ parcel_view (view parcels.old).parts [] []) × (64 < (view parcels.old).parts) }
-        requires all { (all.old.parts ≡ workers) × (all.old.amount ≡ 0) }
-        requires seats { AreSeats (option_copied self.now.board) 0 workers seats.old.items }
-        ensures parcels { IsSeatAt (sends_on self.now.channels.now.to_writers) parcels.new
-            × (view parcels.new ≡ parcel_view (view parcels.new).parts [] [])
-            × ((view parcels.old).parts ≤ (view parcels.new).parts + 64) }
-        ensures most { vec_len result ≤ workers }
-        ensures whole_parcels { vec_len result ≡ workers
-            → (view parcels.new).parts + workers ≡ (view parcels.old).parts }
-        ensures whole_shares { vec_len result ≡ workers → all.new.parts ≡ 0 }
-        ensures amount { all.new.amount ≡ 0 }
+        requires roles { (roles.alone ≤ roles.workers) × (roles.workers ≤ 64) }
+        requires starting { IsStarting self.now.channels.now (option_copied self.now.board)
+            (G.may_stop self.now.gate.now) roles rest.old.seats.items 0 0 0 [] rest.old }
+        ensures most { vec_len result ≤ roles.alone + roles.workers }
         ensures promised { All
             (λ h. (h.promise.channels.now ≡ self.now.channels.now) × (h.promise.gate.now ≡ self.now.gate.now)
             × (option_copied h.promise.board ≡ option_copied self.now.board)) result.items }
-        ensures back { AreBack (option_copied self.now.board) seats.old.items
-            (seats.new.items ++ held (λ h. h.promise.seat.value) result.items) }
-        ensures whole_seats { vec_len result ≡ workers
-            → seats.old.items ≡ seats.new.items ++ held (λ h. h.promise.seat.value) result.items }
-        ensures capacity { vec_capacity seats.new ≡ vec_capacity seats.old }
+        ensures rest { HasRest self.now.channels.now (option_copied self.now.board) (G.may_stop self.now.gate.now)
+            roles.workers rest.old.seats.items (total (λ h. fetchers_in h.promise.worker.value) result.items)
+            (total (λ h. writers_in h.promise.worker.value) result.items)
+            (held (λ h. seat_of h.promise.worker.value) result.items) rest.new }
+        ensures unread { vec_len result ≡ roles.alone + roles.workers
+            → view rest.new.ended.windows ≡ window_view (view rest.new.ended.windows).parts 1 0 [] }
     {
-        let mut started = Vec::new(self.alloc);
-        for i in 0..workers {
-            if started.reserve(1).is_err() {
-                end_parcels(self.rt, self.channels, parcels, i);
-                break;
-            }
-            match self.spawn_writer(scope, i, parcels, all, seats) {
+        let count = roles.alone + roles.workers;
+        let mut started = match Vec::with_capacity(self.alloc, count) {
+            Ok(started) => started,
+            Err(_) => return Vec::new(self.alloc),
+        };
+        for number in 0..count {
+            match self.start_worker(scope, roles, number, rest) {
                 Some(handle) => started.push_reserved(handle),
                 None => break,
             }

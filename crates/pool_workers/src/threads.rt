@@ -1,23 +1,17 @@
 //! The threads of a run.
-ghost use Rattle.std.specs.Prelude.{◌≡◌, ◌<◌, ◌≤◌, [], true, IfSome, vec_capacity, option_copied};
-ghost use Rattle.crossbeam_channel.specs.Claims.{view, IsSeatAt};
-ghost use Rattle.crossbeam_channel.specs.Ends.{sends_on};
+ghost use Rattle.std.specs.Prelude.{◌≡◌, ◌≤◌, [], true, option_copied};
 ghost use Rattle.repl_target.specs.replication.Replication.{is_batch};
-ghost use Rattle.pool_workers.specs.Faults.{Allows};
-ghost use Rattle.pool_workers.specs.Gathered.{FetchedKnows};
-ghost use Rattle.pool_workers.specs.Parcels.{parcel_view};
-ghost use Rattle.pool_workers.specs.Scopes.{IsReady, HaveEnded};
-ghost use Rattle.pool_workers.specs.Windows.{window_view};
+ghost use Rattle.pool_workers.specs.Scopes.{IsReady, IsStarting, HaveEnded};
 
 use crate::brands::{SourceBrand, TargetBrand};
 use crate::context::Context;
-use crate::ends::{end_parcels, end_windows};
 use crate::fault::Halt;
 use crate::gate::Gate;
 use crate::gather::{FetchedAll, WrittenAll};
 use crate::messages::keep_heaps;
 use crate::parcels::ParcelPass;
 use crate::windows::WindowPass;
+use crate::worker::Roles;
 use progress_board::BoardSeat;
 use repl_target::WriteFilter;
 use std::sync::Wait;
@@ -25,10 +19,10 @@ use std::sync::ledger::{Ledger, Share};
 use std::thread;
 use std::thread::{Scope, Threads};
 
-/// What the caller's thread owns before the workers start. For each channel, the caller's thread owns all parts of the
-/// pass, which is the ghost right to use the channel. The caller's thread owns all parts of the ledger, which is a
-/// ghost count of settled documents. The caller's thread also owns the seats (access tokens) of the progress board, and
-/// a list with capacity for a count from each fetcher.
+/// What the caller's thread owns before the workers start. The fields `windows` and `parcels` are the complete rights to
+/// use the channels. The field `all` is the complete right to count settled documents. The list `seats` has a seat of
+/// the progress board for each writer, if the run has a progress board. The list `counts` is empty, and has capacity
+/// for the count of each fetcher.
 #[derive(Drop)]
 pub struct Owned<S: SourceBrand, L: Ledger> {
     pub counts: Vec<u64>,
@@ -38,10 +32,9 @@ pub struct Owned<S: SourceBrand, L: Ledger> {
     pub seats: Vec<BoardSeat>,
 }
 
-/// What the caller's thread owns after all workers have ended. For each channel, the caller's thread owns all parts of
-/// the pass, which is the ghost right to use the channel. The caller's thread owns all parts of the ledger, which is a
-/// ghost count of settled documents. The caller's thread also owns the workers' results. If reading the windows ended
-/// early, the caller's thread also owns the reason.
+/// What the caller's thread owns while workers run, and after all workers have ended. The fields `windows`, `parcels`
+/// and `all` are the rights that no running worker has. The fields `fetched` and `written` have the results of the
+/// workers that have ended. The field `read` is the reason if reading the windows ended early.
 #[derive(Drop)]
 pub struct Ended<S: SourceBrand, L: Ledger> {
     pub windows: WindowPass<S>,
@@ -50,6 +43,14 @@ pub struct Ended<S: SourceBrand, L: Ledger> {
     pub read: Option<Halt>,
     pub fetched: FetchedAll,
     pub written: WrittenAll,
+}
+
+/// What the caller's thread owns while workers run: the rights and the results (`ended`), and the seats of the progress
+/// board that no running worker has.
+#[derive(Drop)]
+pub struct Rest<S: SourceBrand, L: Ledger> {
+    pub ended: Ended<S, L>,
+    pub seats: Vec<BoardSeat>,
 }
 
 impl<
@@ -61,58 +62,13 @@ impl<
     G: Gate + Sync,
     R: Threads + Wait + Sync,
 > Context<'e, F, S, T, L, G, R> {
-    /// Starts the fetchers, reads the windows, and joins the fetchers. Returns the fetchers' results, and the reason if
-    /// reading the windows ended early. If not all fetchers can be started (`start_fetchers`), the call returns `None`
-    /// and reads no window. The call then sends an end message to the writers for each fetcher that was not started.
-    fn fetch_in_scope<'s, E>(
-        &'e self,
-        scope: &Scope<'s, E>,
-        workers: usize,
-        start: u64,
-        counts: Vec<u64>,
-        windows: &mut WindowPass<S>,
-        parcels: &mut ParcelPass<S>,
-    ) -> Option<(Option<Halt>, FetchedAll)>
-    where
-        'e: 's,
-        requires source { S.source ≡ self.now.source.now.1.db }
-        requires plan { S.plan ≡ self.now.plan.now }
-        requires batch { is_batch self.now.plan.now.batch ≡ true }
-        requires workers { workers ≤ 64 }
-        requires counts { (counts.items ≡ []) × (workers ≤ vec_capacity counts) }
-        requires windows { IsSeatAt (sends_on self.now.channels.now.to_fetchers) windows.old
-            × (view windows.old ≡ window_view 1024 1 0 []) }
-        requires parcels { IsSeatAt (sends_on self.now.channels.now.to_writers) parcels.old
-            × (view parcels.old ≡ parcel_view (view parcels.old).parts [] []) × (64 < (view parcels.old).parts) }
-        ensures window_seat { IsSeatAt (sends_on self.now.channels.now.to_fetchers) windows.new }
-        ensures parcels { IsSeatAt (sends_on self.now.channels.now.to_writers) parcels.new
-            × (0 < (view parcels.new).parts) × ((view parcels.new).got ≡ []) }
-        ensures whole { IfSome result
-            (λ f. ((view windows.new).parts ≡ 1024) × ((view parcels.new).parts ≡ (view parcels.old).parts)) }
-        ensures knows { IfSome result (λ f. FetchedKnows (view windows.new) (view parcels.new) f.1) }
-        ensures halted { IfSome result
-            (λ f. IfSome f.0 (Allows (G.may_stop self.now.gate.now))
-            × IfSome f.1.stopped (Allows (G.may_stop self.now.gate.now))) }
-    {
-        let fetchers = self.start_fetchers(scope, workers, windows, parcels);
-        if fetchers.len() < workers {
-            end_windows(self.rt, self.channels, windows, fetchers.len());
-            end_parcels(self.rt, self.channels, parcels, workers - fetchers.len());
-            return None;
-        }
-        let read = self.read_windows(start, windows);
-        end_windows(self.rt, self.channels, windows, workers);
-        let fetched = self.join_fetchers(fetchers, counts, windows, parcels);
-        Some((read, fetched))
-    }
-
-    /// Runs the workers while the caller's thread reads the windows. The second result is the list of the progress
-    /// board's seats (access tokens). If not all workers can be started, the call reads no window, and the first result
-    /// is `None`.
+    /// Starts all workers, reads the windows on the caller's thread, and joins the workers. Returns the results of the
+    /// workers, and the seats of the progress board. If not all workers were started, the call reads no window, and
+    /// returns `None` instead of the results.
     fn in_scope<'s, E>(
         &'e self,
         scope: &Scope<'s, E>,
-        workers: usize,
+        roles: Roles,
         start: u64,
         owned: Owned<S, L>,
     ) -> (Option<Ended<S, L>>, Vec<BoardSeat>)
@@ -121,49 +77,34 @@ impl<
         requires source { S.source ≡ self.now.source.now.1.db }
         requires plan { S.plan ≡ self.now.plan.now }
         requires batch { is_batch self.now.plan.now.batch ≡ true }
-        requires workers { workers ≤ 64 }
-        requires owned { IsReady self.now.channels.now (option_copied self.now.board) workers owned }
-        ensures { HaveEnded self.now.channels.now (option_copied self.now.board) (G.may_stop self.now.gate.now) workers
-            owned.seats.items result.0 result.1.items }
+        requires roles { (roles.alone ≤ roles.workers) × (roles.workers ≤ 64) }
+        requires owned { IsReady self.now.channels.now (option_copied self.now.board) roles.workers owned }
+        ensures { HaveEnded self.now.channels.now (option_copied self.now.board) (G.may_stop self.now.gate.now)
+            roles.workers owned.seats.items result.0 result.1.items }
     {
-        let Owned {
-            counts,
-            mut windows,
-            mut parcels,
-            mut all,
-            mut seats,
-        } = owned;
-        let writers = self.start_writers(scope, workers, &mut parcels, &mut all, &mut seats);
-        if writers.len() < workers {
-            let _ = self.join_writers(writers, &mut parcels, &mut all, &mut seats);
+        let mut rest = self.before_workers(roles, owned);
+        let started = self.start_all(scope, roles, &mut rest);
+        let count = roles.alone + roles.workers;
+        if started.len() < count {
+            self.join_all(started, &mut rest);
+            let Rest { ended: _, seats } = rest;
             return (None, seats);
         }
-        let fetched = self.fetch_in_scope(
-            scope,
-            workers,
-            start,
-            counts,
-            &mut windows,
-            &mut parcels,
+        rest.ended.read = self.read_windows(start, &mut rest.ended.windows);
+        self.end_workers(
+            roles,
+            count,
+            &mut rest.ended.windows,
+            &mut rest.ended.parcels,
         );
-        let written = self.join_writers(writers, &mut parcels, &mut all, &mut seats);
-        let Some((read, fetched)) = fetched else {
-            return (None, seats);
-        };
-        let ended = Ended {
-            windows,
-            parcels,
-            all,
-            read,
-            fetched,
-            written,
-        };
+        self.join_all(started, &mut rest);
+        let Rest { ended, seats } = rest;
         (Some(ended), seats)
     }
 
-    /// Runs the workers as threads of one thread scope (`in_scope`). If the gate never blocks, each thread runs a
-    /// fetcher and a writer in turn (`pairs_in_scope`). If the gate never blocks and there is only one fetcher and one
-    /// writer, both run on the caller's thread (`in_turn`).
+    /// Runs the workers on threads of one scope (`in_scope`). If the gate (a callback) never blocks a worker, each worker fetches
+    /// and writes, so a run needs half as many threads. If such a run has only one worker, the worker runs on the
+    /// caller's thread (`in_turn`).
     pub fn with_workers(
         &'e self,
         workers: usize,
@@ -178,12 +119,14 @@ impl<
         ensures { HaveEnded self.now.channels.now (option_copied self.now.board) (G.may_stop self.now.gate.now) workers
             owned.seats.items result.0 result.1.items }
     {
-        if workers == 1 && !self.gate.may_block() {
+        let may_block = self.gate.may_block();
+        if workers == 1 && !may_block {
             let (ended, seats) = self.in_turn(start, owned);
             return (Some(ended), seats);
         }
         keep_heaps(self.alloc);
         let context = self;
+        let roles = Roles::of(workers, may_block);
         thread::scope(
             thread::scope_env(),
             self.rt,
@@ -191,17 +134,11 @@ impl<
                 requires source { S.source ≡ context.now.source.now.1.db }
                 requires plan { S.plan ≡ context.now.plan.now }
                 requires batch { is_batch context.now.plan.now.batch ≡ true }
-                requires workers { workers ≤ 64 }
-                requires owned { IsReady context.now.channels.now (option_copied context.now.board) workers owned }
+                requires roles { (roles.alone ≤ roles.workers) × (roles.workers ≤ 64) }
+                requires owned { IsReady context.now.channels.now (option_copied context.now.board) roles.workers owned }
                 ensures { HaveEnded context.entry.now.channels.now (option_copied context.entry.now.board)
-                    (G.may_stop context.entry.now.gate.now) workers owned.seats.items result.0 result.1.items }
-            {
-                if context.gate.may_block() {
-                    context.in_scope(scope, workers, start, owned)
-                } else {
-                    context.pairs_in_scope(scope, workers, start, owned)
-                }
-            },
+                    (G.may_stop context.entry.now.gate.now) roles.workers owned.seats.items result.0 result.1.items }
+            { context.in_scope(scope, roles, start, owned) },
         )
     }
 }

@@ -1,11 +1,11 @@
 //! The steps of a writer.
-ghost use Rattle.std.specs.Prelude.{◌≡◌, ◌+◌, ◌-◌, ◌^◌, ◌<◌, [], ◌∷◌, length, IfSome, IfErr, OnOk, Option, None, option_copied};
+ghost use Rattle.std.specs.Prelude.{◌≡◌, ℕ, ◌+◌, ◌-◌, ◌^◌, ◌<◌, [], ◌∷◌, ◌++◌, length, IfSome, IfErr, OnOk, Option, None, option_copied, option_to_list, vec_capacity};
 ghost use Rattle.crossbeam_channel.specs.Claims.{view, IsSeatAt};
-ghost use Rattle.crossbeam_channel.specs.Ends.{receives_on};
+ghost use Rattle.crossbeam_channel.specs.Ends.{sends_on, receives_on};
 ghost use Rattle.pool_workers.specs.Parcels.{parcel_view};
 ghost use Rattle.progress_board.specs.declared.seat.BoardSeat.{BoardSeat};
 ghost use Rattle.repl_peer.specs.declared.fault.TargetFault.{TargetFault};
-ghost use Rattle.pool_workers.specs.Boards.{MayFill, IsSeated, IsFullFor, HasRoom, HasSettled, HasWritten, halt_in};
+ghost use Rattle.pool_workers.specs.Boards.{MayFill, AreSeats, IsSeated, IsFullFor, HasRoom, HasSettled, HasWritten, halt_in};
 ghost use Rattle.pool_workers.specs.Workers.{WriterKnows, WriterShows};
 ghost use Rattle.pool_workers.specs.Faults.{AllowsOn, IsStepFault, SaysFull};
 
@@ -15,7 +15,7 @@ use crate::fault::Halt;
 use crate::fetcher::pass;
 use crate::gate::{Gate, Place};
 use crate::messages::{Fetched, Found};
-use crate::parcels::{Gets, ParcelMessage, ParcelPass};
+use crate::parcels::{Gets, ParcelCut, ParcelMessage, ParcelPass};
 use crate::run_target::taken_of;
 use crate::show::{show_read, show_settled};
 use progress_board::BoardSeat;
@@ -205,6 +205,40 @@ impl<F: WriteFilter, S: SourceBrand, T: TargetBrand<F>, L: Ledger, G: Gate, R: W
         }
     }
 
+    /// Creates a writer. The writer gets a part of `parcels`, and may therefore use the channel of parcels. The writer
+    /// also gets a part of `all`, and counts the documents that it settles on this part. If the run has a progress
+    /// board, the writer also gets the last seat in `seats`.
+    pub fn writer_here(
+        &self,
+        parcels: &mut ParcelPass<S>,
+        all: &mut Share<L>,
+        seats: &mut Vec<BoardSeat>,
+    ) -> Writer<S, L>
+        requires parcels { IsSeatAt (sends_on self.now.channels.now.to_writers) parcels.old
+            × (1 < (view parcels.old).parts) }
+        requires all { (0 < all.old.parts) × (all.old.amount ≡ 0) }
+        requires seats { (others : ℕ) × (workers : ℕ) × (others < workers)
+            × AreSeats (option_copied self.now.board) others workers seats.old.items }
+        ensures parcel_seats { IsSeatAt (sends_on self.now.channels.now.to_writers) parcels.new
+            × IsSeatAt (sends_on self.now.channels.now.to_writers) result.parcels }
+        ensures parcels { view parcels.new
+            ≡ parcel_view ((view parcels.old).parts - 1) (view parcels.old).sent (view parcels.old).got }
+        ensures all { (all.new.parts + 1 ≡ all.old.parts) × (all.new.amount ≡ 0) }
+        ensures knows { WriterKnows [] result }
+        ensures free { result.stopped ≡ None }
+        ensures share { result.share.amount ≡ 0 }
+        ensures seated { IsSeated (option_copied self.now.board) result.seat }
+        ensures seats { seats.old.items ≡ seats.new.items ++ option_to_list result.seat }
+        ensures left { (others : ℕ) (workers : ℕ) → others < workers
+            → AreSeats (option_copied self.now.board) others workers seats.old.items
+            → AreSeats (option_copied self.now.board) (others + 1) workers seats.new.items }
+        ensures capacity { vec_capacity seats.new ≡ vec_capacity seats.old }
+    {
+        let its_parcels = self.channels.to_writers.another::<ParcelCut>(parcels);
+        let share = all.split_off(1, 0);
+        Writer::new(its_parcels, share, seats.pop())
+    }
+
     /// Receives one message. Returns false if the writer received the end message of the channel of parcels.
     pub fn take_parcel(&self, writer: &mut Writer<S, L>) -> bool
         requires source { S.source ≡ self.now.source.now.1.db }
@@ -235,32 +269,5 @@ impl<F: WriteFilter, S: SourceBrand, T: TargetBrand<F>, L: Ledger, G: Gate, R: W
             Ok(ParcelMessage::End) => false,
             Err(_) => false,
         }
-    }
-
-    /// Receives and settles parcels until the end message of the channel of parcels.
-    pub fn write_all(
-        &self,
-        parcels: ParcelPass<S>,
-        share: Share<L>,
-        seat: Option<BoardSeat>,
-    ) -> Writer<S, L>
-        requires source { S.source ≡ self.now.source.now.1.db }
-        requires parcels { IsSeatAt (receives_on self.now.channels.now.from_fetchers) parcels
-            × (view parcels ≡ parcel_view 1 [] []) }
-        requires share { (share.parts ≡ 1) × (share.amount ≡ 0) }
-        requires board_seat { IsSeated (option_copied self.now.board) seat }
-        ensures seat { IsSeatAt (receives_on self.now.channels.now.from_fetchers) result.parcels }
-        ensures knows { WriterKnows [] result }
-        ensures halted { IfSome result.stopped
-            (AllowsOn (MayFill (option_copied self.now.board)) (G.may_stop self.now.gate.now)) }
-        ensures shows { WriterShows (option_copied self.now.board) seat result }
-    {
-        let mut writer = Writer::new(parcels, share, seat);
-        for _ in self.rt.forever() {
-            if !self.take_parcel(&mut writer) {
-                break;
-            }
-        }
-        writer
     }
 }

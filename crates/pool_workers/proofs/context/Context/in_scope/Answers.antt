@@ -1,22 +1,24 @@
-use Rattle.proof_prelude.proofs.{option_copied, arith}
-use Rattle.pool_workers.proofs.{back_seated, back_then, back_length}
+use Rattle.proof_prelude.proofs.{◌≡◌, ◌+◌, None, Some, Vec, Global, vec_len, subst, option_copied, arith}
+use Rattle.progress_board.specs.{BoardSeat}
+use Rattle.pool_workers.specs.{HaveEnded}
+use Rattle.pool_workers.proofs.{ended_all, ended_early, reads, tells_ends}
 use Rattle.pool_workers.proofs.context.Context.in_scope.Goals as goal
 
-pub join_writers-requires-clause-seats : goal.join_writers-requires-clause-seats
-join_writers-requires-clause-seats g c = back_seated (option_copied c.args.self.now.board) _ _ c.start_writers-writers.ensures.back
+pub returns-then-len-count : goal.returns-then-len-count
+returns-then-len-count g c =
+    let h = c.join_all.ensures c.args.roles.workers c.before_workers-rest.result.seats.items c.start_all-started.ensures.rest in
+    subst (λ (v : Vec BoardSeat Global). HaveEnded {S = g.row.S.Denot} {L = g.row.L.Denot} c.args.self.now.channels.now (option_copied c.args.self.now.board) (g.G.Gate.may_stop c.args.self.now.gate.now) c.args.roles.workers v.items None c.join_all.new.rest.seats.items) c.before_workers-rest.ensures.seats
+    (ended_early h)
 
-pub join_writers-requires-clause-room : goal.join_writers-requires-clause-room
-join_writers-requires-clause-room g c =
-    let s = c.start_writers-writers.ensures in
-    omega (arith, back_length (option_copied c.args.self.now.board) _ _ s.back, s.capacity, c.args.owned.seats.ok.0, c.args.owned.seats.ok.1)
-
-pub returns-then-len-workers : goal.returns-then-len-workers
-returns-then-len-workers g c = record {
-  window_seat = tt;
-  parcel_seat = tt;
-  whole = tt;
-  tells = tt;
-  halted = tt;
-  back = back_then (option_copied c.args.self.now.board) _ _ _ c.start_writers-writers.ensures.back c.join_writers.ensures.back;
-  shown = tt;
-}
+pub returns : goal.returns
+returns g c =
+    let started = c.start_all-started.ensures in
+    let all : vec_len c.start_all-started.result ≡ c.args.roles.alone + c.args.roles.workers = omega (arith, started.most) in
+    let read = c.read_windows-rest.ensures in
+    let r = c.start_all-started.new.rest in
+    let t = record r { ended = record r.ended { windows = c.read_windows-rest.new.windows; read = c.read_windows-rest.result } } in
+    let u = record t { ended = record t.ended { windows = c.end_workers.new.windows; parcels = c.end_workers.new.parcels } } in
+    let h = c.join_all-2.ensures c.args.roles.workers c.before_workers-rest.result.seats.items
+    (tells_ends u (reads t started.rest (started.unread all) read.seat read.windows read.free) c.end_workers.ensures.windows c.end_workers.ensures.parcels) in
+    subst (λ (v : Vec BoardSeat Global). HaveEnded c.args.self.now.channels.now (option_copied c.args.self.now.board) (g.G.Gate.may_stop c.args.self.now.gate.now) c.args.roles.workers v.items (Some c.join_all-2.new.rest.ended) c.join_all-2.new.rest.seats.items) c.before_workers-rest.ensures.seats
+    (ended_all h)

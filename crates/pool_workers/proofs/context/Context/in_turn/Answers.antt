@@ -1,34 +1,31 @@
-use Rattle.proof_prelude.proofs.{rules, ◌≡◌, ◌++◌, Option, sym, subst, option_copied, option_to_list, arith}
-use Rattle.progress_board.specs.{Board}
-use Rattle.pool_workers.specs.{AreSeated, AreBack, HaveShown}
-use Rattle.pool_workers.proofs.{seats_seated, seated_parts, back_same, back_last, shown_start, shown_last}
+use Rattle.proof_prelude.proofs.{◌≡◌, [], Some, Vec, Global, subst, option_copied}
+use Rattle.progress_board.specs.{BoardSeat}
+use Rattle.pool_workers.specs.{HaveEnded, seat_of}
+use Rattle.pool_workers.proofs.{ended_all, keeps_roles, reads}
 use Rattle.pool_workers.proofs.context.Context.in_turn.Goals as goal
+
+pub read_in_turn-rest-requires-clause-seat : goal.read_in_turn-rest-requires-clause-seat
+read_in_turn-rest-requires-clause-seat g c =
+    let s = c.new_worker-worker.ensures.started _ _ _ _ c.before_workers-rest.ensures.starting in s.rest.window_seat
+
+pub read_in_turn-rest-requires-clause-windows : goal.read_in_turn-rest-requires-clause-windows
+read_in_turn-rest-requires-clause-windows g c =
+    let s = c.new_worker-worker.ensures.started _ _ _ _ c.before_workers-rest.ensures.starting in (s.unread, s.rest.window_parts.0)
+
+pub take_in-requires-clause-rest : goal.take_in-requires-clause-rest
+take_in-requires-clause-rest g c =
+    let r = c.new_worker-worker.new.rest in
+    let t = record r { ended = record r.ended { windows = c.read_in_turn-rest.new.windows; read = c.read_in_turn-rest.result } } in
+    let read = c.read_in_turn-rest.ensures in
+    let s = c.new_worker-worker.ensures.started _ _ _ _ c.before_workers-rest.ensures.starting in
+    (1, c.before_workers-rest.result.seats.items, [], 0, 0, seat_of c.new_worker-worker.result, read.keeps.shows, keeps_roles 0 0 read.keeps (reads t s.rest s.unread read.seat read.windows read.free))
 
 pub returns : goal.returns
 returns g c =
-    let board : Option Board = option_copied c.args.self.now.board in
-    let out = c.writer_here-writer.ensures in
-    let given = option_to_list c.writer_here-writer.result.seat in
-    let left = c.writer_here-writer.new.seats.items in
-    let seated : AreSeated board (left ++ given) = subst (AreSeated board) out.seats (seats_seated board 0 1 c.args.owned.seats.items c.requires.owned.seats) in
-    let none = subst (λ o. HaveShown board c.writer_here-writer.result.share.amount o given given) (sym out.free) (shown_start board c.writer_here-writer.result.share.amount given out.share) in
-    let writer = c.read_in_turn-read.new.pair.writer in
-    let shows = c.read_in_turn-read.ensures.shows c.writer_here-writer.result.seat (back_same board given (seated_parts board left given seated).1, none) in
-    let came = c.take_in-2.ensures in
-    let back = option_to_list writer.seat in
-    let amount : c.take_in-2.new.all.amount ≡ writer.share.amount = omega (arith, came.all.1, out.all.1) in
-    record {
-      window_seat = search rules;
-      parcel_seat = search rules;
-      whole = search rules;
-      tells = search rules;
-      halted = search rules;
-      back =
-          subst (λ l. AreBack board l c.take_in-2.new.seats.items) (sym out.seats)
-          (subst (AreBack board (left ++ given)) (sym came.seats) (back_last board left given back seated shows.0));
-      shown =
-          subst (λ l. HaveShown board c.take_in-2.new.all.amount c.take_in-2.new.self.stopped l c.take_in-2.new.seats.items) (sym out.seats)
-          (subst (HaveShown board c.take_in-2.new.all.amount c.take_in-2.new.self.stopped (left ++ given)) (sym came.seats)
-          (subst (λ n. HaveShown board n c.take_in-2.new.self.stopped (left ++ given) (left ++ back)) (sym amount)
-          (shown_last board writer.share.amount writer.stopped c.take_in-2.new.self.stopped left given back shows.1 (λ e. (came.free e).1))));
-    }
+    let given = c.before_workers-rest.result.seats.items in
+    let r = c.new_worker-worker.new.rest in
+    let t = record r { ended = record r.ended { windows = c.read_in_turn-rest.new.windows; read = c.read_in_turn-rest.result } } in
+    let read = c.read_in_turn-rest.ensures in
+    let s = c.new_worker-worker.ensures.started _ _ _ _ c.before_workers-rest.ensures.starting in
+    let h = c.take_in.ensures 1 given [] 0 0 (seat_of c.new_worker-worker.result) read.keeps.shows (keeps_roles 0 0 read.keeps (reads t s.rest s.unread read.seat read.windows read.free)) in
+    subst (λ (v : Vec BoardSeat Global). HaveEnded c.args.self.now.channels.now (option_copied c.args.self.now.board) (g.G.Gate.may_stop c.args.self.now.gate.now) 1 v.items (Some c.take_in.new.rest.ended) c.take_in.new.rest.seats.items) c.before_workers-rest.ensures.seats (ended_all h)

@@ -1,8 +1,7 @@
-use Rattle.proof_prelude.proofs.{◌≡◌, ◌-◌, ◌≤◌, [], Option, option_copied}
+use Rattle.proof_prelude.proofs.{◌≡◌, ◌-◌, ◌≤◌, [], option_copied}
 use Rattle.crossbeam_channel.specs.Claims.{view, IsSeatAt}
 use Rattle.crossbeam_channel.specs.Ends.{sends_on}
-use Rattle.progress_board.specs.{BoardSeat}
-use Rattle.pool_workers.specs.{window_view, StandBy, WriterShows}
+use Rattle.pool_workers.specs.{window_view, Keeps}
 use Rattle.pool_workers.proofs.context.Context.read_in_turn.Given as goal
 
 abbrev pub invariant-loop-since : goal.invariant-loop-since
@@ -11,9 +10,7 @@ invariant-loop-since g l = record {
   read : view l.windows ≡ window_view (view l.initial.windows).parts 1 l.number [];
   below : l.number ≤ l.since;
   goal : l.goal ≡ l.self.source.now.1.db.update_seq;
-  stand : StandBy l.self.channels.now (option_copied l.self.board) (g.G.Gate.may_stop l.self.gate.now) l.pair;
-  shows : (given : Option BoardSeat) → WriterShows (option_copied l.self.board) given l.initial.pair.writer
-      → WriterShows (option_copied l.self.board) given l.pair.writer;
+  keeps : Keeps l.self.channels.now (option_copied l.self.board) (g.G.Gate.may_stop l.self.gate.now) l.initial.worker l.worker;
 }
 
 abbrev pub decreases-loop-since : goal.decreases-loop-since
