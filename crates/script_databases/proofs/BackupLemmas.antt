@@ -1,5 +1,5 @@
 -- Named backups.
-use Rattle.proof_prelude.proofs.{◌≡◌, ◌⊎◌, inl, inr, true, Option, Some, None, is_some, Result, Ok, Err, refl, sym}
+use Rattle.proof_prelude.proofs.{◌≡◌, ◌⊎◌, arith, common_steps, true, Option, Some, is_some, Result, Ok, Err, refl}
 use Rattle.repl_peer.specs.{PeerValue, GivesUnlessMemory, BackupValue, restore_answer, restored_by, after_restore, TargetFault}
 use Rattle.repl_peer.specs.declared.fault.TargetFault.TheVariants as faults
 use Rattle.repl_network.proofs.{restores_in}
@@ -8,8 +8,7 @@ use Rattle.script_databases.specs.declared.refusal.Refusal.TheVariants as why
 
 -- the errors of the two calls
 pub copy_refused : {A : Type 0} (fault : TargetFault) (expected : Result A TargetFault) → GivesUnlessMemory (Err fault) expected → (expected ≡ Err fault) ⊎ (fault ≡ faults.Memory)
-copy_refused faults.Memory expected h = inr refl
-copy_refused fault expected h = inl (sym h)
+copy_refused fault expected h = grind (arith, common_steps)
 
 -- a restored peer has the same UUID
 pub restore_keeps : (b : BackupValue) (p : PeerValue) → (after_restore p b).db.uuid ≡ p.db.uuid
@@ -21,5 +20,4 @@ restore_keeps b p = go (restore_answer p b) refl
 
 -- a name in use
 pub taken_refused : (p : PeerValue) (o : Option BackupValue) → is_some o ≡ true → backed_told (backed_of (Some p) o) ≡ Err why.BackupExists
-taken_refused p None h = cc
-taken_refused p (Some b) h = refl
+taken_refused p o h = grind (arith, common_steps)

@@ -1,5 +1,5 @@
 -- The index of the databases' UUIDs.
-use Rattle.proof_prelude.proofs.{◌≡◌, ℕ, true, false, cond, List, [], refl, sym, ap, ◌∙◌, inl, inr, Option, Some, None, nat_eq, list_any, eqb-true, eq-eqb, same_Some, none-some, true≢false}
+use Rattle.proof_prelude.proofs.{◌≡◌, ℕ, true, false, cond, List, [], refl, sym, ap, ◌∙◌, arith, common_steps, inl, inr, Option, Some, None, nat_eq, list_any, eqb-true, eq-eqb, same_Some, none-some, true≢false}
 use Rattle.repl_peer.specs.{PeerValue}
 use Rattle.repl_network.specs.{IsAdded, IsHeldBy}
 use Rattle.script_databases.specs.{IsIndex}
@@ -24,10 +24,8 @@ index_added peers peers' name l uuids more k index a e h = record {
         let known = index.noted u (sym (h u ∙ ap (λ b. cond b true (list_any (nat_eq u) uuids)) f) ∙ among) in
         (known.0, known.1, a.others known.0 (λ q. none-some known.1 (sym a.free ∙ ap peers (sym q) ∙ known.2)) ∙ known.2, known.3)
   ] refl;
-  taken = λ u t. h u ∙ elim (names t.0 name) [
-    | inl q ↦
-        let one : l ≡ t.1 = same_Some l t.1 (sym a.now ∙ ap peers' (sym q) ∙ t.2) in
-        ap (λ b. cond b true (list_any (nat_eq u) uuids)) (eq-eqb k u (e ∙ ap (λ (x : PeerValue). x.db.uuid) one ∙ t.3))
-    | inr o ↦ ap (cond (nat_eq k u) true) (index.taken u (t.0, t.1, sym (a.others t.0 o) ∙ t.2, t.3)) ∙ elim (nat_eq k u) as (λ b. cond b true true ≡ true) [ true ↦ refl | false ↦ refl ]
+  taken = λ u t. elim (names t.0 name) [
+    | inl q ↦ (let same : l ≡ t.1 = same_Some l t.1 (sym a.now ∙ ap peers' (sym q) ∙ t.2) in grind (arith, common_steps, h u, eq-eqb k u, ap (λ (x : PeerValue). x.db.uuid) same, t.3))
+    | inr o ↦ (let old = index.taken u (t.0, t.1, sym (a.others t.0 o) ∙ t.2, t.3) in grind (arith, common_steps, h u))
   ];
 }

@@ -1,4 +1,4 @@
-use Rattle.proof_prelude.proofs.{ap, sym, ◌∙◌, subst}
+use Rattle.proof_prelude.proofs.{arith, common_steps, rules, ap, sym, ◌∙◌, subst}
 use Rattle.couch_base.specs.{DatabaseValue}
 use Rattle.script_databases.specs.{State, peer_at, with_peer, Entries, IsConsistent, IsIndex, IsStored, IsTaken, beside_of, state_of}
 use Rattle.script_databases.proofs.{added_step, deny_one, index_added, is_added, lawful_of, one_inserted, state_one}
@@ -13,6 +13,9 @@ pub invariant_of-self-in_err-insert : goal.invariant_of-self-in_err-insert
 invariant_of-self-in_err-insert c =
     let g = beside_of c.self.inside.settings c.self.inside.drawn c.self.inside.backups in
     subst (IsStored g c.reserve.new.self.entries) (sym c.in_err-insert.ensures.err) (subst (λ (es : Entries). IsStored g es c.self.inside.uuids.keys) (sym c.in_ok-reserve.ensures.entries) c.self.invariant)
+
+pub invariant_of-self-in_err-insert-2 : goal.invariant_of-self-in_err-insert-2
+invariant_of-self-in_err-insert-2 c = absurd (first_of (omega arith, grind (arith, common_steps), search rules))
 
 pub invariant_of-self-2 : goal.invariant_of-self-2
 invariant_of-self-2 c =

@@ -1,8 +1,8 @@
-use Rattle.proof_prelude.proofs.{◌≡◌, inl, sym, ap, ◌∙◌, rules, subst, None, Some, Result, OnErr, OnOk}
+use Rattle.proof_prelude.proofs.{arith, common_steps, ◌≡◌, inl, sym, ap, ◌∙◌, rules, subst, None, Some, Result, OnErr, OnOk}
 use Rattle.couch_base.specs.declared.fault.Put.{Put}
 use Rattle.repl_peer.specs.{after_load}
 use Rattle.repl_network.proofs.{load_writes}
-use Rattle.script_databases.specs.{State, load_answer, loaded_at, peer_at, GivesOrMemory, Refusal, base_refusal, told_as, beside_of, state_of}
+use Rattle.script_databases.specs.{IsStored, State, load_answer, loaded_at, peer_at, GivesOrMemory, Refusal, base_refusal, told_as, beside_of, state_of}
 use Rattle.script_databases.proofs.{at_of, changes, load_gives, stays, stored_written, writes_of}
 use Rattle.script_databases.proofs.databases.Databases.load.Goals as goal
 
@@ -27,6 +27,11 @@ returns c =
     let k = load_gives _ _ r _ e.answer (changes g old new name l u there updates (λ p. after_load p c.args.doc.now) r e.ok) (stays g old new name l u there updates r e.err) in
     let good = subst (Good c.load_told.result) c.self.view_is (subst (λ x. Good x (state_of g old.entries)) (sym c.load_told.ensures) (subst (λ o. GivesOrMemory (told_as base_refusal r) (load_answer o c.args.doc.now)) (sym (at_of old.entries name (Some l) (sym there))) k.0, k.1, k.2)) in
     record { answer = good.0; ok = good.1; err = good.2 }
+
+pub invariant_of-self : goal.invariant_of-self
+invariant_of-self c =
+    let same : c.get_mut.follows.lender-at-none.entries ≡ c.self.inside.by_name.entries = first_of (search rules, grind (arith, common_steps)) in
+    subst (λ es. IsStored (beside_of c.self.inside.settings c.self.inside.drawn c.self.inside.backups) es c.self.inside.uuids.keys) (sym same) c.self.invariant
 
 pub invariant_of-self-2 : goal.invariant_of-self-2
 invariant_of-self-2 c =

@@ -1,6 +1,6 @@
-use Rattle.proof_prelude.proofs.{◌≡◌, Some, None, inl, sym, ap, ◌∙◌, rules, subst, option_copied, Result, OnErr, OnOk}
+use Rattle.proof_prelude.proofs.{arith, common_steps, ◌≡◌, Some, None, inl, sym, ap, ◌∙◌, rules, subst, option_copied, Result, OnErr, OnOk}
 use Rattle.repl_peer.specs.{after_restore}
-use Rattle.script_databases.specs.{State, backup_among, backup_at, peer_at, put_back_answer, put_back_by, put_back_of, GivesOrMemory, Refusal, target_refusal, told_as, beside_of, state_of}
+use Rattle.script_databases.specs.{IsStored, State, backup_among, backup_at, peer_at, put_back_answer, put_back_by, put_back_of, GivesOrMemory, Refusal, target_refusal, told_as, beside_of, state_of}
 use Rattle.script_databases.specs.declared.databases.PutBack.{PutBack}
 use Rattle.script_databases.proofs.{at_of, changes, restore_gives, restore_step, restore_uuid, stays, stored}
 use Rattle.script_databases.proofs.databases.Databases.put_back.Goals as goal
@@ -37,6 +37,11 @@ returns c =
     let ok = subst (λ o. OnOk x (state_of g new.entries ≡ put_back_by (state_of g old.entries) db o)) (sym kept) k.1 in
     let good = subst (Good c.restore_told.result) c.self.view_is (subst (λ x. Good x (state_of g old.entries)) (sym c.restore_told.ensures) (answer, ok, k.2)) in
     record { answer = good.0; ok = good.1; err = good.2 }
+
+pub invariant_of-self : goal.invariant_of-self
+invariant_of-self c =
+    let same : c.get_mut.follows.lender-at-none.entries ≡ c.self.inside.by_name.entries = first_of (search rules, grind (arith, common_steps)) in
+    subst (λ es. IsStored (beside_of c.self.inside.settings c.self.inside.drawn c.self.inside.backups) es c.self.inside.uuids.keys) (sym same) c.self.invariant
 
 pub invariant_of-self-2 : goal.invariant_of-self-2
 invariant_of-self-2 c =
