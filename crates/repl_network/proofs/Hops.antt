@@ -10,10 +10,9 @@ use Rattle.repl_target.specs.{CoversFeed, IsTiedPair, HasGrownBy}
 use Rattle.repl_target.proofs.{tree_lawful, leaf_covered, left_grown, covered_stands}
 use Rattle.repl_network.specs.{Hop, IsAt, AreTied, AllAgree, AllWhole, IsRefusedNowhere, IsSameEverywhere, AllChoose, Leads, LeadsEverywhere, Spread, AllHopped, AllLawful, IsReplicated}
 use Rattle.repl_network.specs.Hopped.{Hopped}
-use Rattle.repl_network.proofs.Trees.{Agree-both, IsWhole-grown}
+use Rattle.repl_network.proofs.Writes.{Agree-both, IsWhole-grown, one_peer}
 use Rattle.repl_network.proofs.Steps.{Moves, Two, at_source, at_target, elsewhere, moves}
-use Rattle.repl_network.proofs.Positions.{decide, hop_tied}
-use Rattle.repl_network.proofs.Writes.{one_peer}
+use Rattle.repl_network.proofs.Places.{decide, hop_tied}
 
 abbrev tree : PeerValue → Id → TreeValue
 tree p id = tree_of p.db.docs id

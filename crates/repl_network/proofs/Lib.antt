@@ -1,16 +1,13 @@
 pub mod Pairs
 pub mod Steps
-pub mod Positions
-pub mod Trees
-pub mod Hops
-pub mod Writes
 pub mod Places
-pub mod Edits
+pub mod Writes
+pub mod Hops
 pub mod Chains
 pub mod Makes
 pub use Pairs.{restores_in}
 pub use Steps.{empty_network, network_tied, same_uuids, step_keeps}
-pub use Positions.{added_net, edit_writes, hop_net, hop_tied, load_writes, same_writes, wrote_net, wrote_tied}
+pub use Places.{added_net, edit_writes, hop_net, hop_tied, load_writes, same_writes, wrote_net, wrote_tied}
 pub use Hops.{all_spread}
 pub use Writes.{edit_agree, wrote_agree}
 pub use Places.{IsOnTheWay, at_of, changed_at, each_all, each_more, ended_of, hop_of, hopped_of, hops_all, hops_next, in_net, map_set}

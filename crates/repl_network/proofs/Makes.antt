@@ -7,9 +7,8 @@ use Rattle.couch_base.specs.{Id, tree_of, content_of, edited, edit_document, Bas
 use Rattle.repl_peer.specs.{PeerValue, new_peer, after_edit, after_load}
 use Rattle.repl_network.specs.{Hop, IsAt, peers_of, tree_alone, IsRooted, IsRootedAt, IsChangedAt, EditValue, Makes, IsMadeBy, AllMadeBy, HaveNoCollision, IsOneOf, MadeAgree, StaysMade, StaysMadeExcept}
 use Rattle.repl_network.specs.Hopped.{Hopped}
-use Rattle.repl_network.proofs.Trees.{alone, IsWhole-grown}
-use Rattle.repl_network.proofs.Edits.{edit_rooted, edit_makes, sig_of}
-use Rattle.repl_network.proofs.Positions.{old_or_new, peers_more}
+use Rattle.repl_network.proofs.Writes.{IsWhole-grown, alone, edit_makes, edit_rooted, sig_of}
+use Rattle.repl_network.proofs.Places.{old_or_new, peers_more}
 use Rattle.repl_network.proofs.Hops.{was}
 use Rattle.repl_network.proofs.Writes as writes
 

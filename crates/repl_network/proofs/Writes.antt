@@ -1,15 +1,118 @@
--- The effect of a write at one peer of a network: trees that agree still agree if the write fits.
-use Rattle.proof_prelude.proofs.{◌≡◌, ◌⊎◌, ℕ, Bool, true, false, cond, List, Option, Some, unwrap_or, Result, Ok, Err, refl, sym, ap, ◌∙◌, subst, inl, inr, bytes_eq, cases_Bool, cond_both, bytes_eq-Decides}
-use Rattle.rev_core.specs.{RevId}
-use Rattle.rev_tree.specs.{TreeValue, has, merged, no_revisions, Agree, IsWhole, IsRoot, IsGrownBy, IsGrownBy-same, Origin}
+-- Trees that grow by a document, the document of an edit, and the effect of a write at one peer of a network.
+use Rattle.proof_prelude.proofs.{◌≡◌, ◌⊎◌, true, List, ap, ◌∙◌, option_or, get, empty, get-empty, arith, common_steps, ℕ, ◌^◌, Bool, false, cond, [], ◌∷◌, Option, Some, None, is_some, unwrap_or, Result, Ok, Err, refl, sym, subst, inl, inr, nat_lt, is_ok, list_all, option_to_list, result_unwrap_or, eq_by_cmp, false≢true, and_parts, or_cases, or_left, same_Some, bytes_eq, cases_Bool, cond_both, bytes_eq-Decides}
+use Rattle.std.specs.FinMap.{find}
+use Rattle.rev_core.specs.{RevId, rev_cmp, edges_of, rev_tie_is, rev_tie_self, is_among, ◌>>=◌, refused_if, named, next_generation, edit_sig, edit_rev}
+use Rattle.rev_tree.specs.{ContentValue, TreeValue, has, joined, merged, at_head, no_revisions, get-joined, get-joined_known, has-merged, has-merged_given, Agree, IsWhole, IsRoot, IsGrownBy, Origin, first_of, is_leaf, is_deleted, leaves, is_among-leaves, IsGrownBy-same}
 use Rattle.rev_tree.specs.declared.origin.Origin.TheVariants.{Local}
+use Rattle.couch_base.specs.{content_of, Id, DatabaseValue, tree_in, tree_of, parent_answer, edit_id, edited, edit_document, BaseFault, with_tree, tree_in-with_tree, put_answer, is_changed, after_put}
+use Rattle.repl_network.specs.{tree_alone, IsRooted, IsAt, AllAgree, AllWhole, FitsIn, IsRootedAt, EditFits, KeepsAgreement, IsChangedAt}
 use Rattle.doc_json.specs.Document.{Document}
-use Rattle.couch_base.specs.{Id, DatabaseValue, tree_in, tree_of, with_tree, tree_in-with_tree, put_answer, is_changed, content_of, after_put, edited, edit_document, BaseFault}
 use Rattle.repl_peer.specs.{PeerValue, next_local, after_load, load_edited, after_edit}
-use Rattle.repl_network.specs.{IsAt, AllAgree, AllWhole, tree_alone, FitsIn, IsRooted, IsRootedAt, EditFits, KeepsAgreement, IsChangedAt}
-use Rattle.repl_network.proofs.Edits.{edit_rooted}
-use Rattle.repl_network.proofs.Positions.{becomes, was_at}
-use Rattle.repl_network.proofs.Trees.{Agree-both, IsGrownBy-written, IsWhole-written}
+use Rattle.repl_network.proofs.Places.{becomes, was_at}
+use Rattle.couch_base.specs.declared.fault.BaseFault.TheVariants as faults
+
+-- two trees that agree, also with the tree they grow from, agree afterwards
+module _ (by s t s' t' : TreeValue) (first : IsGrownBy s by s') (second : IsGrownBy t by t') where
+  pub Agree-both : Agree s t → Agree s by → Agree by t → Agree s' t'
+  Agree-both both left right = record {
+    parents = λ c p q h k. grind (arith, common_steps, first.parents c p h, second.parents c q k, both.parents c p q, left.parents c p q, right.parents c p q);
+    contents = λ r x y h k. grind (arith, common_steps, first.contents r x h, second.contents r y k, both.contents r x y, left.contents r x y, right.contents r x y);
+  }
+
+-- a tree with complete history stays so
+pub IsWhole-grown : (s by s' : TreeValue) → IsGrownBy s by s' → IsWhole s → IsWhole by → IsWhole s'
+IsWhole-grown s by s' grown ours theirs r h none = grind (arith, common_steps, grown.roots r (h, none), ours r, theirs r)
+
+-- ---- a written document
+
+-- a map that was empty before
+pub alone : {X : Type 0} (es : List (RevId × X)) (q : RevId) → get (joined (empty {R = rev_cmp}) es) q ≡ find rev_cmp q es
+alone es q = get-joined empty es q ∙ ap (λ o. option_or o (find rev_cmp q es)) (get-empty rev_cmp q)
+
+-- a tree grows by a document as by a tree of its own
+module _ (t : TreeValue) (revs : List RevId) (b : ContentValue) (o other : Origin) where
+  abbrev new : TreeValue
+  new = merged no_revisions revs b other
+
+  pub IsGrownBy-written : IsGrownBy t new (merged t revs b o)
+  IsGrownBy-written = record {
+    kept = λ c p h. get-joined_known t.parents (edges_of revs) c p h;
+    revs = λ r h. grind (arith, common_steps, has-merged t revs b o r, has-merged_given no_revisions revs b other r);
+    parents = λ c p h. grind (arith, common_steps, get-joined t.parents (edges_of revs) c, alone (edges_of revs) c);
+    contents = λ r x h. grind (arith, common_steps, get-joined t.contents (at_head revs b) r, alone (at_head revs b) r);
+    roots = λ r h. grind (arith, common_steps, get-joined t.parents (edges_of revs) r, alone (edges_of revs) r, has-merged t revs b o r, has-merged_given no_revisions revs b other r);
+  }
+
+  -- the history stays complete if the document's oldest revision has generation 1 or is in the tree
+  pub IsWhole-written : IsWhole t → ((r : RevId) → IsRoot new r → (r.generation ≡ 1) ⊎ (has t r ≡ true)) → IsWhole (merged t revs b o)
+  IsWhole-written whole rooted r h none = grind (arith, common_steps, get-joined t.parents (edges_of revs) r, IsGrownBy-written.roots r (h, none), whole r, rooted r)
+
+-- ---- the revisions of an edit
+
+passed : {A E : Type 0} (b : Bool) (why : E) (x y : A) → (refused_if b why >>= λ _. Ok x) ≡ Ok y → x ≡ y
+passed b why x y e = grind (arith, common_steps)
+
+chosen : {A E : Type 0} (b : Bool) (x y : A) (why : E) → cond b (Ok x) (Err why) ≡ Ok y → x ≡ y
+chosen b x y why e = grind (arith, common_steps)
+
+bound : {A B E : Type 0} (r : Result A E) (f : A → Result B E) (y : B) → (r >>= f) ≡ Ok y → (x : A) × (r ≡ Ok x) × (f x ≡ Ok y)
+bound (Ok x) f y e = (x, refl, e)
+bound (Err why) f y e = absurd (false≢true (ap is_ok e))
+
+named_ok : {A E F : Type 0} (fault : F) (r : Result A E) (a : A) → named fault r ≡ Ok a → r ≡ Ok a
+named_ok fault r a k = grind (arith, common_steps)
+
+-- the revision that the edit makes, and its parent
+edit_parts : (db : DatabaseValue) (id : Id) (parent : Option RevId) (deleted : Bool) (body : List ℕ) (e : RevId × Option RevId) → edited db id parent deleted body ≡ Ok e → (parent_answer (tree_in db.docs id) parent ≡ Ok e.1) × (edit_rev e.1 deleted body ≡ Ok e.0)
+edit_parts db id parent deleted body e h =
+    let x = bound (parent_answer (tree_in db.docs id) parent) _ e h in
+    let y = bound (edit_id x.0 deleted body) _ e x.2 in
+    let same = passed (has (tree_of db.docs id) y.0) (faults.RevExists y.0) (y.0, x.0) e y.2 in (
+      x.1 ∙ ap (λ (z : RevId × Option RevId). Ok z.1) same,
+      subst (λ (z : RevId × Option RevId). edit_rev z.1 deleted body ≡ Ok z.0) same (named_ok faults.GenerationFull (edit_rev x.0 deleted body) y.0 y.1),
+    )
+
+pub edit_makes : (db : DatabaseValue) (id : Id) (parent : Option RevId) (deleted : Bool) (body : List ℕ) (e : RevId × Option RevId) → edited db id parent deleted body ≡ Ok e → edit_rev e.1 deleted body ≡ Ok e.0
+edit_makes db id parent deleted body e h = (edit_parts db id parent deleted body e h).1
+
+-- the signature and the generation of the revision
+made_as : (before : Option RevId) (deleted : Bool) (body : List ℕ) (rev : RevId) → edit_rev before deleted body ≡ Ok rev → ◌≡◌ {A = RevId} (record { generation = next_generation before; sig = edit_sig before deleted body }) rev
+made_as before deleted body rev h = chosen (nat_lt (next_generation before) (2 ^ 32)) _ rev _ h
+
+pub sig_of : (before : Option RevId) (deleted : Bool) (body : List ℕ) (rev : RevId) → edit_rev before deleted body ≡ Ok rev → edit_sig before deleted body ≡ rev.sig
+sig_of before deleted body rev h = ap (λ (y : RevId). y.sig) (made_as before deleted body rev h)
+
+-- the parent of the edit exists
+first : (xs : List RevId) (b : RevId) → first_of xs ≡ Some b → is_among b xs ≡ true
+first [] b e = cc
+first (x ∷ xs) b e = grind (arith, common_steps, rev_tie_self b)
+
+stands : (o : Option TreeValue) (parent : Option RevId) (b : RevId) → parent_answer o parent ≡ Ok (Some b) → has (unwrap_or o no_revisions) b ≡ true
+stands None None b h = cc
+stands None (Some parent) b h = cc
+stands (Some u) (Some parent) b h = grind (arith, common_steps)
+stands (Some u) None b h = grind (arith, common_steps, is_among-leaves u b, first (leaves u) b)
+
+-- ---- its document
+
+module _ (t : TreeValue) (id : Id) (deleted : Bool) (body : List ℕ) (rev : RevId) where
+  ours : (before : Option RevId) (r : RevId) → IsRoot (tree_alone (edit_document id (rev, before) deleted body)) r → is_among r (rev ∷ option_to_list before) ≡ true
+  ours before r root =
+      elim (or_cases _ _ (sym (has-merged no_revisions (rev ∷ option_to_list before) (content_of deleted body) (Local 0) r) ∙ root.0)) [
+        | inl none ↦ absurd (false≢true (sym (ap is_some (get-empty rev_cmp r)) ∙ none))
+        | inr among ↦ among
+      ]
+
+  pub rooted : (before : Option RevId) → rev.generation ≡ next_generation before → ((b : RevId) → before ≡ Some b → has t b ≡ true) → (r : RevId) → IsRoot (tree_alone (edit_document id (rev, before) deleted body)) r → (r.generation ≡ 1) ⊎ (has t r ≡ true)
+  rooted None number there r root = grind (arith, common_steps, ours None r root, rev_tie_is r rev)
+  rooted (Some b) number there r root = grind (arith, common_steps, ours (Some b) r root, rev_tie_is r rev, rev_tie_is r b, there b refl, alone (edges_of (rev ∷ b ∷ [])) r)
+
+pub edit_rooted : (db : DatabaseValue) (id : Id) (parent : Option RevId) (deleted : Bool) (body : List ℕ) (e : RevId × Option RevId) → edited db id parent deleted body ≡ Ok e → IsRooted db (edit_document id e deleted body)
+edit_rooted db id parent deleted body e h =
+    let x = edit_parts db id parent deleted body e h in
+    let number = sym (ap (λ (y : RevId). y.generation) (made_as e.1 deleted body e.0 x.1)) in
+    rooted (tree_of db.docs id) id deleted body e.0 e.1 number
+    (λ b at. stands (tree_in db.docs id) parent b (x.0 ∙ ap (λ o. Ok o) at))
 
 pub one_peer : (peers : List PeerValue) (n : ℕ) (p q : PeerValue) → IsAt peers n p → IsAt peers n q → p ≡ q
 one_peer peers n p q h k = ap (λ (o : Option PeerValue). unwrap_or o p) (sym h ∙ k)

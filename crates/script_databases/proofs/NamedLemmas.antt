@@ -12,9 +12,8 @@ use Rattle.repl_network.proofs.{same_writes}
 use Rattle.script_databases.specs.{GivesOrMemory, told_as, base_refusal, target_refusal, peer_at, with_changed, changed_at, edited_as, put_back_of, Beside, IsConsistent, IsIndex, IsStored, IsWithOne, deny_of, deny_refuses, state_of, with_peer}
 use Rattle.script_databases.specs.declared.refusal.Refusal.{Refusal}
 use Rattle.script_databases.proofs.BackupLemmas.{copy_refused}
-use Rattle.script_databases.proofs.Filters.{lawful_of}
+use Rattle.script_databases.proofs.Tables.{at_of, deny_one, lawful_of, one_updated, peer_same, state_one}
 use Rattle.script_databases.proofs.Networks.{index_with, written_step}
-use Rattle.script_databases.proofs.Tables.{at_of, deny_one, one_updated, peer_same, state_one}
 
 -- ---- the results of calls on a database, with the errors' names
 

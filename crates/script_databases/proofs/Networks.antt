@@ -11,8 +11,7 @@ use Rattle.repl_network.proofs.{empty_network, network_tied, same_uuids, same_wr
 use Rattle.script_databases.specs.{AreLawful, Beside, Entries, IsConsistent, IsCopyOf, IsIndex, NamedBackupValue, State, backup_at, deny_refuses, is_named, peer_at, state_of, with_backup, with_both, with_peer}
 use Rattle.script_databases.specs.Databases.{IsTaken}
 use Rattle.script_databases.proofs.BackupLemmas.{restore_keeps}
-use Rattle.script_databases.proofs.Index.{index_same}
-use Rattle.script_databases.proofs.Tables.{at_of, differ, got, names}
+use Rattle.script_databases.proofs.Tables.{at_of, differ, got, index_same, names}
 
 -- ---- the peer at a name after a peer was stored
 

@@ -10,9 +10,8 @@ use Rattle.pool_workers.specs.{PoolFault, Place}
 use Rattle.repl_pool.specs.{early_answer, EarlyOrLate, LeavesOrPuts, RunsOn}
 use Rattle.repl_pool.proofs.{runs_early}
 use Rattle.script_databases.specs.{State, peer_at, with_peer, Nowhere, ReplicatesAlone, ReplicatesBetween, ReplicatesByPool, ReplicatesWatched, deny_refuses, with_both, Beside, Entries, IsConsistent, IsIndex, IsStored, IsWithBoth, deny_of, entry_at, state_of}
-use Rattle.script_databases.proofs.Filters.{lawful_of}
+use Rattle.script_databases.proofs.Tables.{at_of, both_over, deny_both, lawful_of, peer_same, state_both}
 use Rattle.script_databases.proofs.Networks.{index_both, replicated_step}
-use Rattle.script_databases.proofs.Tables.{at_of, both_over, deny_both, peer_same, state_both}
 
 -- ---- a valid plan is one between two names
 

@@ -1,10 +1,12 @@
--- Stored tables, by the bytes of their names.
-use Rattle.proof_prelude.proofs.{◌≡◌, ◌≢◌, ◌⊎◌, inl, inr, ℕ, true, false, cond, List, [], ◌∷◌, map, refl, sym, ap, ◌∙◌, arith, common_steps, Option, Some, string_bytes, is_some, option_map, bytes_eq, bytes_eq-Decides, eq_by_cmp_equiv, eq_by_cmp, FinMap, get, contains_key, get-from_entries, get-insert, same_map, slice_cmp-IsAntisymmetric, nat_cmp-IsAntisymmetric, IsAntisymmetric, nat_list_cmp_total, is_eq-slice_cmp, same_Some, both_ways, cases_Bool, false_from_ne_true, String, UpdatesBy, hash_map_updates_text, string_eq}
+-- Stored tables by the bytes of their names, their filters, and the index of the UUIDs.
+use Rattle.proof_prelude.proofs.{◌≡◌, ◌≢◌, ◌⊎◌, inl, inr, ℕ, true, false, cond, List, [], ◌∷◌, map, refl, sym, ap, ◌∙◌, arith, common_steps, Option, Some, string_bytes, is_some, option_map, bytes_eq, bytes_eq-Decides, eq_by_cmp_equiv, eq_by_cmp, FinMap, get, contains_key, get-from_entries, get-insert, same_map, slice_cmp-IsAntisymmetric, nat_cmp-IsAntisymmetric, IsAntisymmetric, nat_list_cmp_total, is_eq-slice_cmp, same_Some, both_ways, cases_Bool, false_from_ne_true, String, UpdatesBy, hash_map_updates_text, string_eq, Bool, None, nat_eq, subst, option_map_or, starts_with, list_any, eqb-true, eq-eqb, none-some, true≢false}
 use Rattle.std.specs.declared.alloc.Global.{Global}
 use Rattle.std.specs.FinMap.{find, insert}
 use Rattle.std.specs.HashMap.{HashMap}
-use Rattle.repl_peer.specs.{PeerValue, Rules}
-use Rattle.script_databases.specs.{State, text_cmp, AllDeny, Beside, Entries, IsWithBoth, IsWithOne, deny_of, entry_at, peer_at, peers_of, state_of, with_both, with_peer}
+use Rattle.repl_peer.specs.{PeerValue, Rules, Lawful, rules_refuse}
+use Rattle.script_databases.specs.{State, text_cmp, AllDeny, Beside, Entries, IsWithBoth, IsWithOne, deny_of, entry_at, peer_at, peers_of, state_of, with_both, with_peer, deny_refuses, IsIndex}
+use Rattle.doc_json.specs.Document.{Document}
+use Rattle.repl_network.specs.{IsAdded, IsHeldBy}
 
 text_cmp-IsAntisymmetric : IsAntisymmetric text_cmp
 text_cmp-IsAntisymmetric = slice_cmp-IsAntisymmetric nat_cmp-IsAntisymmetric
@@ -91,3 +93,38 @@ module _ {S : Type 0} where
   pub one_inserted : (es : Entries) (old new : HashMap (String Global) (Rules × PeerValue) S) (key : String Global) (name : List ℕ) (p : Rules × PeerValue) → old.entries ≡ es → string_bytes key ≡ name → UpdatesBy string_eq (string_eq key) old new (Some p) → IsWithOne es name p new.entries
   one_inserted es old new key name p same is h n =
       one_updated old new (string_bytes key) p h n ∙ ap (λ k. cond (bytes_eq k n) (Some p) (entry_at old.entries n)) is ∙ ap (λ x. cond (bytes_eq name n) (Some p) (entry_at x n)) same
+
+rules_are : (deny : Option (String Global)) → ◌≡◌ {A = Document → Bool} (λ d. option_map_or (λ prefix. starts_with nat_eq d.id (string_bytes prefix)) deny false) (deny_refuses (option_map string_bytes deny))
+rules_are None = refl
+rules_are (Some prefix) = refl
+
+pub refuses_is : (deny : Option (List ℕ)) (rules : Rules) → deny_of rules ≡ deny → rules_refuse rules ≡ deny_refuses deny
+refuses_is deny rules own = rules_are rules.deny ∙ ap deny_refuses own
+
+pub lawful_of : (deny : Option (List ℕ)) (p : Rules × PeerValue) → deny_of p.0 ≡ deny → Lawful (rules_refuse p.0) p.1 → Lawful (deny_refuses deny) p.1
+lawful_of deny p own law = subst (λ f. Lawful f p.1) (refuses_is deny p.0 own) law
+
+pub index_none : (peers : List ℕ → Option PeerValue) (uuids : List ℕ) → ((n : List ℕ) → peers n ≡ None) → uuids ≡ [] → IsIndex peers uuids
+index_none peers uuids none e = record {
+  noted = λ u h. absurd (true≢false (sym h ∙ ap (list_any (nat_eq u)) e));
+  taken = λ u t. absurd (none-some t.1 (sym (none t.0) ∙ t.2));
+}
+
+-- the databases have the same UUIDs as before
+pub index_same : (peers peers' : List ℕ → Option PeerValue) (uuids : List ℕ) → ((u : ℕ) → (IsHeldBy peers u → IsHeldBy peers' u) × (IsHeldBy peers' u → IsHeldBy peers u)) → IsIndex peers uuids → IsIndex peers' uuids
+index_same peers peers' uuids same index = record { noted = λ u h. (same u).0 (index.noted u h); taken = λ u t. index.taken u ((same u).1 t) }
+
+pub index_added : (peers peers' : List ℕ → Option PeerValue) (name : List ℕ) (l : PeerValue) (uuids more : List ℕ) (k : ℕ) → IsIndex peers uuids → IsAdded peers name l peers' → k ≡ l.db.uuid → ((q : ℕ) → list_any (nat_eq q) more ≡ cond (nat_eq k q) true (list_any (nat_eq q) uuids))
+    → IsIndex peers' more
+index_added peers peers' name l uuids more k index a e h = record {
+  noted = λ u among. elim (nat_eq k u) as (λ b. nat_eq k u ≡ b → IsHeldBy peers' u) [
+    | true ↦ λ t. (name, l, a.now, sym e ∙ eqb-true k u t)
+    | false ↦ λ f.
+        let known = index.noted u (sym (h u ∙ ap (λ b. cond b true (list_any (nat_eq u) uuids)) f) ∙ among) in
+        (known.0, known.1, a.others known.0 (λ q. none-some known.1 (sym a.free ∙ ap peers (sym q) ∙ known.2)) ∙ known.2, known.3)
+  ] refl;
+  taken = λ u t. elim (names t.0 name) [
+    | inl q ↦ (let same : l ≡ t.1 = same_Some l t.1 (sym a.now ∙ ap peers' (sym q) ∙ t.2) in grind (arith, common_steps, h u, eq-eqb k u, ap (λ (x : PeerValue). x.db.uuid) same, t.3))
+    | inr o ↦ (let old = index.taken u (t.0, t.1, sym (a.others t.0 o) ∙ t.2, t.3) in grind (arith, common_steps, h u))
+  ];
+}

@@ -1,6 +1,6 @@
 -- A session of `replicate` that reached its goal covers the source's selected feed, and a failed `replicate` has an
 -- expected error.
-use Rattle.proof_prelude.proofs.{◌≡◌, ◌⊎◌, inl, inr, ℕ, Bool, true, false, List, Option, Some, None, Result, Ok, Err, is_ok, IfOk, IfErr, refl, sym, ap, subst, ◌∙◌, true≢false}
+use Rattle.proof_prelude.proofs.{◌≡◌, ◌⊎◌, inl, inr, ℕ, Bool, true, false, List, Option, Some, None, Result, Ok, Err, arith, common_steps, IfOk, IfErr, refl, sym, ap, subst, ◌∙◌, true≢false}
 use Rattle.doc_json.specs.{Choice}
 use Rattle.repl_peer.specs.{TargetFault, PeerValue}
 use Rattle.pool_workers.specs.{PoolFault}
@@ -11,7 +11,7 @@ use Rattle.repl_peer.specs.declared.fault.TargetFault.TheVariants as faults
 use Rattle.script_engine.specs.{Told}
 use Rattle.script_databases.specs.{IsConsistent, State, peer_at, GivesOrMemory, name_of, run_stop_of, stop_of, Refusal}
 use Rattle.script_databases.specs.declared.refusal.Refusal.TheVariants as why
-use Rattle.rev_core.specs.{◌>>=◌, or_refused}
+use Rattle.rev_core.specs.{◌>>=◌}
 use Rattle.command_api.specs.{choice_given, database_of, told_of}
 use Rattle.write_commands.specs.{EndsBy, Fails, FailsAlone, FailsInPool, MayFail, StopsIfAsked, ReplicateAsk, ReplicatesChosen, ReplicatesFound, both_of, plan_of, replicated_text, with_drawn, with_session, CoversIfDone, IsCovered, Ending}
 use Rattle.write_commands.specs.declared.replicate.Options.{Options}
@@ -115,23 +115,12 @@ chosen_covered old new h ask s t at_s at_t (Ok c) told gives (inr (late, ending,
     subst (IsCovered new ask) (sym is)
     (tells new ask s t plan ending gives (ends_good new ask.source ask.target s t plan ask.options mid same at_s' at_t' refl ask.options.alone ask.options.progress refl ending ends))
 
--- two databases are found, or one does not exist
-abbrev pair_of : Option PeerValue → Option PeerValue → Result (PeerValue × PeerValue) Refusal
-pair_of s t = do
-  source ← or_refused why.NoDatabase s
-  target ← or_refused why.NoDatabase t
-  Ok (source, target)
-
-why_is : (x y : Refusal) → ◌≡◌ {A = Result (PeerValue × PeerValue) Refusal} (Err x) (Err y) → x ≡ y
-why_is x y e = cc
-
-absent : (s t : Option PeerValue) (refusal : Refusal) → pair_of s t ≡ Err refusal → refusal ≡ why.NoDatabase
-absent None t refusal e = sym (why_is why.NoDatabase refusal e)
-absent (Some s) None refusal e = sym (why_is why.NoDatabase refusal e)
-absent (Some s) (Some t) refusal e = absurd (true≢false (ap is_ok e))
+-- a database does not exist
+absent : (old : State) (ask : ReplicateAsk) (refusal : Refusal) → both_of old ask ≡ Err refusal → refusal ≡ why.NoDatabase
+absent old ask refusal e = grind (arith, common_steps)
 
 pub reports_covered : (old new : State) → IsConsistent old → (ask : ReplicateAsk) (told : Told) (both : Result (PeerValue × PeerValue) Refusal) → both_of old ask ≡ both → ReplicatesFound old ask both told new → IsCovered new ask told
-reports_covered old new h ask told (Err refusal) e d = refused_covered new ask told refusal d.0 (inl (absent (peer_at old ask.source) (peer_at old ask.target) refusal e))
+reports_covered old new h ask told (Err refusal) e d = refused_covered new ask told refusal d.0 (inl (absent old ask refusal e))
 reports_covered old new h ask told (Ok both) e d =
     let k1 = bound (database_of old ask.source) _ both e in
     let k2 = bound (database_of old ask.target) _ both k1.2 in

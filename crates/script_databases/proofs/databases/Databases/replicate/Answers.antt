@@ -12,15 +12,9 @@ pub returns-in_err-check_run : goal.returns-in_err-check_run
 returns-in_err-check_run g c =
     let g = beside_of c.self.inside.settings c.self.inside.drawn c.self.inside.backups in
     let es = c.self.inside.by_name.entries in
-    let a = c.args.source.now in
-    let b = c.args.target.now in
-    let plan = c.args.plan.now in
     let told = err_from_is_err_and c.from_residual.result c.from_residual.ensures.1 in
-    let at_s = at_of es a (Some c.find_both.result.0.now) c.find_both.ensures.source in
-    let at_t = at_of es b (Some c.find_both.result.1.now) c.find_both.ensures.target in
-    let refused = run_refused (state_of g es) a b _ _ plan at_s at_t (c.self.invariant.2.1 b _ at_t).0.sessions c.in_err-check_run.field-0.0 (sym c.in_err-check_run.ensures) in
     record {
-      between = subst (λ st. ReplicatesBetween ReplicatesByPool st a b plan c.from_residual.result st) c.self.view_is (subst (λ r. ReplicatesBetween ReplicatesByPool (state_of g es) a b plan r (state_of g es)) (sym (told.1 ∙ ap Err told.2)) refused);
+      between = subst (λ st. ReplicatesBetween ReplicatesByPool st c.args.source.now c.args.target.now c.args.plan.now c.from_residual.result st) c.self.view_is (subst (λ r. ReplicatesBetween ReplicatesByPool (state_of g es) c.args.source.now c.args.target.now c.args.plan.now r (state_of g es)) (sym (told.1 ∙ ap Err told.2)) (run_refused (state_of g es) c.args.source.now c.args.target.now _ _ c.args.plan.now (at_of es c.args.source.now (Some c.find_both.result.0.now) c.find_both.ensures.source) (at_of es c.args.target.now (Some c.find_both.result.1.now) c.find_both.ensures.target) (c.self.invariant.2.1 c.args.target.now _ (at_of es c.args.target.now (Some c.find_both.result.1.now) c.find_both.ensures.target)).0.sessions c.in_err-check_run.field-0.0 (sym c.in_err-check_run.ensures)));
       covered = rw told.1 tt;
     }
 
@@ -28,29 +22,22 @@ pub invariant_of-self : goal.invariant_of-self
 invariant_of-self g c =
     let g = beside_of c.self.inside.settings c.self.inside.drawn c.self.inside.backups in
     let es = c.self.inside.by_name.entries in
-    let a = c.args.source.now in
-    let b = c.args.target.now in
-    let plan = c.args.plan.now in
     let out = c.take_out-sender in
     let left = out.ensures.left in
-    let two = names_apart (entry_at es) (λ x. x.1.db.uuid) a b _ _ c.find_both.ensures.source c.find_both.ensures.target (run_apart _ _ c.args.plan.now (sym c.in_ok-check_run.ensures)) in
-    stored_both g es out.new.names.entries c.put_in.new.names.entries a b left.0 left.1 out.result.0 out.result.1 c.run-sender.result.source c.run-sender.result.target left.2 c.put_in.ensures out.ensures.source out.ensures.target c.self.inside.uuids.keys two c.run-sender.ensures.runs.filter c.run-sender.ensures.runs.grown.0
-    c.law.ensures.peer c.law.ensures.database c.law-2.ensures.peer c.law-2.ensures.database _ plan (run_leaves _ _ _ _ _ _ _ _ _ _ c.run-sender.ensures.runs) (c.run-sender.ensures.runs.later) c.self.invariant
+    stored_both g es out.new.names.entries c.put_in.new.names.entries c.args.source.now c.args.target.now left.0 left.1 out.result.0 out.result.1 c.run-sender.result.source c.run-sender.result.target left.2 c.put_in.ensures out.ensures.source out.ensures.target c.self.inside.uuids.keys (names_apart (entry_at es) (λ x. x.1.db.uuid) c.args.source.now c.args.target.now _ _ c.find_both.ensures.source c.find_both.ensures.target (run_apart _ _ c.args.plan.now (sym c.in_ok-check_run.ensures))) c.run-sender.ensures.runs.filter c.run-sender.ensures.runs.grown.0
+    c.law.ensures.peer c.law.ensures.database c.law-2.ensures.peer c.law-2.ensures.database _ c.args.plan.now (run_leaves _ _ _ _ _ _ _ _ _ _ c.run-sender.ensures.runs) (c.run-sender.ensures.runs.later) c.self.invariant
 
 pub returns : goal.returns
 returns g c =
     let g = beside_of c.self.inside.settings c.self.inside.drawn c.self.inside.backups in
     let es = c.self.inside.by_name.entries in
-    let a = c.args.source.now in
-    let b = c.args.target.now in
-    let plan = c.args.plan.now in
     let out = c.take_out-sender in
     let left = out.ensures.left in
     let s = out.result.0 in
     let t = out.result.1 in
     let ran = c.run-sender.result in
-    let is = state_left g es out.new.names.entries c.put_in.new.names.entries a b left.0 left.1 s t ran.source ran.target left.2 c.put_in.ensures out.ensures.source out.ensures.target in
+    let is = state_left g es out.new.names.entries c.put_in.new.names.entries c.args.source.now c.args.target.now left.0 left.1 s t ran.source ran.target left.2 c.put_in.ensures out.ensures.source out.ensures.target in
     let between =
-    subst (λ (st : State). ReplicatesBetween ReplicatesByPool st a b plan ran.outcome (state_of g c.put_in.new.names.entries)) c.self.view_is
-    (s.1, t.1, at_of es a (Some s) out.ensures.source, at_of es b (Some t) out.ensures.target, (ran.source.1, ran.target.1, ran.fetched.items, run_denied ⊥ Nowhere plan g.program.deny s t ran.source ran.target ran.fetched.items ran.outcome (refuses_is g.program.deny t.0 (c.self.invariant.0 b t out.ensures.target)) c.run-sender.ensures.runs, is)) in
+    subst (λ (st : State). ReplicatesBetween ReplicatesByPool st c.args.source.now c.args.target.now c.args.plan.now ran.outcome (state_of g c.put_in.new.names.entries)) c.self.view_is
+    (s.1, t.1, at_of es c.args.source.now (Some s) out.ensures.source, at_of es c.args.target.now (Some t) out.ensures.target, (ran.source.1, ran.target.1, ran.fetched.items, run_denied ⊥ Nowhere c.args.plan.now g.program.deny s t ran.source ran.target ran.fetched.items ran.outcome (refuses_is g.program.deny t.0 (c.self.invariant.0 c.args.target.now t out.ensures.target)) c.run-sender.ensures.runs, is)) in
     record { between = between; covered = pool_between _ _ (subst IsConsistent c.self.view_is c.self.invariant.2) _ _ _ _ between }

@@ -13,15 +13,9 @@ pub returns-in_err-check_peers : goal.returns-in_err-check_peers
 returns-in_err-check_peers c =
     let g = beside_of c.self.inside.settings c.self.inside.drawn c.self.inside.backups in
     let es = c.self.inside.by_name.entries in
-    let a = c.args.source.now in
-    let b = c.args.target.now in
-    let plan = c.args.plan.now in
     let told = err_from_is_err_and c.from_residual.result c.from_residual.ensures.1 in
-    let at_s = at_of es a (Some c.find_both.result.0.now) c.find_both.ensures.source in
-    let at_t = at_of es b (Some c.find_both.result.1.now) c.find_both.ensures.target in
-    let refused = alone_refused (state_of g es) a b _ _ plan at_s at_t c.in_err-check_peers.field-0.0 (sym c.in_err-check_peers.ensures) in
     record {
-      between = subst (λ st. ReplicatesBetween ReplicatesAlone st a b plan c.from_residual.result st) c.self.view_is (subst (λ r. ReplicatesBetween ReplicatesAlone (state_of g es) a b plan r (state_of g es)) (sym (told.1 ∙ ap Err told.2)) refused);
+      between = subst (λ st. ReplicatesBetween ReplicatesAlone st c.args.source.now c.args.target.now c.args.plan.now c.from_residual.result st) c.self.view_is (subst (λ r. ReplicatesBetween ReplicatesAlone (state_of g es) c.args.source.now c.args.target.now c.args.plan.now r (state_of g es)) (sym (told.1 ∙ ap Err told.2)) (alone_refused (state_of g es) c.args.source.now c.args.target.now _ _ c.args.plan.now (at_of es c.args.source.now (Some c.find_both.result.0.now) c.find_both.ensures.source) (at_of es c.args.target.now (Some c.find_both.result.1.now) c.find_both.ensures.target) c.in_err-check_peers.field-0.0 (sym c.in_err-check_peers.ensures)));
       covered = rw told.1 tt;
     }
 
@@ -29,22 +23,15 @@ pub invariant_of-self : goal.invariant_of-self
 invariant_of-self c =
     let g = beside_of c.self.inside.settings c.self.inside.drawn c.self.inside.backups in
     let es = c.self.inside.by_name.entries in
-    let a = c.args.source.now in
-    let b = c.args.target.now in
-    let plan = c.args.plan.now in
     let out = c.take_out-sender in
     let left = out.ensures.left in
-    let two = names_apart (entry_at es) (λ x. x.1.db.uuid) a b _ _ c.find_both.ensures.source c.find_both.ensures.target (plan_apart _ _ c.args.plan.now (sym c.in_ok-check_peers.ensures)) in
-    stored_both g es out.new.names.entries c.put_in.new.names.entries a b left.0 left.1 out.result.0 out.result.1 c.replicate_alone-outcome.new.source c.replicate_alone-outcome.new.target left.2 c.put_in.ensures out.ensures.source out.ensures.target c.self.inside.uuids.keys two c.replicate_alone-outcome.ensures.filters.0 c.replicate_alone-outcome.ensures.filters.1
-    c.law-3.ensures.peer c.law-3.ensures.database c.law-4.ensures.peer c.law-4.ensures.database _ plan (replicates_leaves _ out.result.0.1 out.result.1.1 plan c.replicate_alone-outcome.result c.replicate_alone-outcome.new.source.1 c.replicate_alone-outcome.new.target.1 c.replicate_alone-outcome.ensures.replicates c.replicate_alone-outcome.ensures.source c.replicate_alone-outcome.ensures.tied c.replicate_alone-outcome.ensures.others) ((left_law _ out.result.0.1 out.result.1.1 plan c.replicate_alone-outcome.new.target.1 c.law.ensures.database c.law-2.ensures.peer.sessions (replicates_left _ out.result.0.1 out.result.1.1 plan c.replicate_alone-outcome.result c.replicate_alone-outcome.new.source.1 c.replicate_alone-outcome.new.target.1 c.replicate_alone-outcome.ensures.replicates)).1) c.self.invariant
+    stored_both g es out.new.names.entries c.put_in.new.names.entries c.args.source.now c.args.target.now left.0 left.1 out.result.0 out.result.1 c.replicate_alone-outcome.new.source c.replicate_alone-outcome.new.target left.2 c.put_in.ensures out.ensures.source out.ensures.target c.self.inside.uuids.keys (names_apart (entry_at es) (λ x. x.1.db.uuid) c.args.source.now c.args.target.now _ _ c.find_both.ensures.source c.find_both.ensures.target (plan_apart _ _ c.args.plan.now (sym c.in_ok-check_peers.ensures))) c.replicate_alone-outcome.ensures.filters.0 c.replicate_alone-outcome.ensures.filters.1
+    c.law-3.ensures.peer c.law-3.ensures.database c.law-4.ensures.peer c.law-4.ensures.database _ c.args.plan.now (replicates_leaves _ out.result.0.1 out.result.1.1 c.args.plan.now c.replicate_alone-outcome.result c.replicate_alone-outcome.new.source.1 c.replicate_alone-outcome.new.target.1 c.replicate_alone-outcome.ensures.replicates c.replicate_alone-outcome.ensures.source c.replicate_alone-outcome.ensures.tied c.replicate_alone-outcome.ensures.others) ((left_law _ out.result.0.1 out.result.1.1 c.args.plan.now c.replicate_alone-outcome.new.target.1 c.law.ensures.database c.law-2.ensures.peer.sessions (replicates_left _ out.result.0.1 out.result.1.1 c.args.plan.now c.replicate_alone-outcome.result c.replicate_alone-outcome.new.source.1 c.replicate_alone-outcome.new.target.1 c.replicate_alone-outcome.ensures.replicates)).1) c.self.invariant
 
 pub returns : goal.returns
 returns c =
     let g = beside_of c.self.inside.settings c.self.inside.drawn c.self.inside.backups in
     let es = c.self.inside.by_name.entries in
-    let a = c.args.source.now in
-    let b = c.args.target.now in
-    let plan = c.args.plan.now in
     let out = c.take_out-sender in
     let left = out.ensures.left in
     let s = out.result.0 in
@@ -52,8 +39,8 @@ returns c =
     let s' = c.replicate_alone-outcome.new.source in
     let t' = c.replicate_alone-outcome.new.target in
     let e = c.replicate_alone-outcome.ensures in
-    let is = state_left g es out.new.names.entries c.put_in.new.names.entries a b left.0 left.1 s t s' t' left.2 c.put_in.ensures out.ensures.source out.ensures.target in
+    let is = state_left g es out.new.names.entries c.put_in.new.names.entries c.args.source.now c.args.target.now left.0 left.1 s t s' t' left.2 c.put_in.ensures out.ensures.source out.ensures.target in
     let between =
-    subst (λ (st : State). ReplicatesBetween ReplicatesAlone st a b plan c.replicate_alone-outcome.result (state_of g c.put_in.new.names.entries)) c.self.view_is
-    (s.1, t.1, at_of es a (Some s) out.ensures.source, at_of es b (Some t) out.ensures.target, (s'.1, t'.1, subst (λ f. Replicates f s.1 t.1 plan c.replicate_alone-outcome.result s'.1 t'.1) (refuses_is g.program.deny t.0 (c.self.invariant.0 b t out.ensures.target)) e.replicates, record { log = e.source; later = (left_law _ s.1 t.1 plan c.replicate_alone-outcome.new.target.1 c.law.ensures.database c.law-2.ensures.peer.sessions (replicates_left _ s.1 t.1 plan c.replicate_alone-outcome.result c.replicate_alone-outcome.new.source.1 c.replicate_alone-outcome.new.target.1 c.replicate_alone-outcome.ensures.replicates)).1; tied = e.tied; well = e.report; whole = e.whole; expected = e.expected }, is)) in
+    subst (λ (st : State). ReplicatesBetween ReplicatesAlone st c.args.source.now c.args.target.now c.args.plan.now c.replicate_alone-outcome.result (state_of g c.put_in.new.names.entries)) c.self.view_is
+    (s.1, t.1, at_of es c.args.source.now (Some s) out.ensures.source, at_of es c.args.target.now (Some t) out.ensures.target, (s'.1, t'.1, subst (λ f. Replicates f s.1 t.1 c.args.plan.now c.replicate_alone-outcome.result s'.1 t'.1) (refuses_is g.program.deny t.0 (c.self.invariant.0 c.args.target.now t out.ensures.target)) e.replicates, record { log = e.source; later = (left_law _ s.1 t.1 c.args.plan.now c.replicate_alone-outcome.new.target.1 c.law.ensures.database c.law-2.ensures.peer.sessions (replicates_left _ s.1 t.1 c.args.plan.now c.replicate_alone-outcome.result c.replicate_alone-outcome.new.source.1 c.replicate_alone-outcome.new.target.1 c.replicate_alone-outcome.ensures.replicates)).1; tied = e.tied; well = e.report; whole = e.whole; expected = e.expected }, is)) in
     record { between = between; covered = alone_between _ _ (subst IsConsistent c.self.view_is c.self.invariant.2) _ _ _ _ between }
