@@ -17,8 +17,7 @@ use Rattle.script_databases.specs.Stored.{AllDeny, Beside, Entries, IsIndex, sta
 abbrev pub IsCopyOf : State → List ℕ → BackupValue → Type 0
 IsCopyOf s n b = (k : NamedBackupValue) × Among k s.backups × (k.db ≡ n) × (k.backup ≡ b)
 
--- Each database satisfies the invariant of a peer with the program's filter (`Lawful`). Every refusal of a document by a
--- database is therefore right.
+-- Each database satisfies the invariant of a peer with the program's filter (`Lawful`).
 abbrev pub AreLawful : State → Type 0
 AreLawful s =
     (name : List ℕ) (p : PeerValue) → peer_at s name ≡ Some p
