@@ -1,12 +1,11 @@
 -- Two consistent peers of which one changes, and the replications of a peer's logs and sessions.
-use Rattle.proof_prelude.proofs.{◌≡◌, ◌⊎◌, ℕ, false, cond, List, [], ◌∷◌, Bool, Result, Ok, Err, ◌+◌, ◌<◌, ◌≤◌, ◌==◌, nat_lt, refl, sym, ap, subst, ◌∙◌, inl, inr, arith, cond_both, eqb-true}
+use Rattle.proof_prelude.proofs.{◌≡◌, ◌⊎◌, ℕ, false, List, [], ◌∷◌, Bool, Result, Ok, Err, ◌+◌, ◌<◌, ◌≤◌, refl, sym, ap, subst, ◌∙◌, inl, inr, arith, common_steps, cond_both}
 use Rattle.doc_json.specs.Document.{Document}
 use Rattle.doc_json.specs.{Choice}
-use Rattle.couch_base.specs.{Among, most}
+use Rattle.couch_base.specs.{Among}
 use Rattle.repl_log.specs.declared.replication.RepId.{RepId}
 use Rattle.repl_log.specs.{EntryValue, with_entry, log_in, logs_with, same_rep, same_rep-is}
 use Rattle.repl_peer.specs.{TargetFault, BackupValue, PeerValue, SessionValue, is_target, greater_life, restore_answer, restored, rep_between, source_log, put_by, put_entry_answer}
-use Rattle.repl_peer.specs.declared.fault.TargetFault.TheVariants as faults
 use Rattle.repl_target.specs.{AreTiedEntries, IsTiedWith, IsLeft, IsPut, Plan, Begin, beginning_between, after_begins}
 use Rattle.repl_target.proofs.{Stays, call_keeps, each-kept, of_run, run_keeps, session-later, entry-later, entry-life, backups-later, backups-source, tied_source}
 use Rattle.repl_network.specs.Network.{Writes}
@@ -40,15 +39,7 @@ no_session [] e s m = absurd m
 no_session (x ∷ ss) e s m = cc
 
 pub restores_in : (p : PeerValue) (b : BackupValue) (done : Unit {0}) → restore_answer p b ≡ Ok done → Restores p b
-restores_in p b done is =
-    let room = cond (nat_lt (greater_life p b) most) (Ok tt) (Err faults.LifeFull) in
-    cond_both (is_target p.sessions) (Err faults.IsTarget) (cond (b.db.uuid == p.db.uuid) room (Err faults.ForeignBackup)) (λ (x : Result (Unit {0}) TargetFault). x ≡ Ok done → Restores p b)
-    (λ _ k. cc)
-    (λ no k. record {
-      uuid = cond_both (b.db.uuid == p.db.uuid) room (Err faults.ForeignBackup) (λ (x : Result (Unit {0}) TargetFault). x ≡ Ok done → b.db.uuid ≡ p.db.uuid) (λ e _. eqb-true _ _ e) (λ _ j. cc) k;
-      none = no_session p.sessions no;
-    })
-    is
+restores_in p b done is = (let no : is_target p.sessions ≡ false = grind (arith, common_steps) in record { uuid = grind (arith, common_steps); none = no_session p.sessions no })
 
 -- the source's new life is greater than all, and the log is the backup's
 pub restored_source : (p : PeerValue) (b : BackupValue) (q : PeerValue) (c : Choice) → Restores p b → AreTiedEntries b.db q (rep_between p q c) (log_in b.outgoing (rep_between p q c)) → (backups : List BackupValue) → IsTiedWith backups p q c → IsTiedWith backups (restored p b) q c

@@ -5,19 +5,79 @@ use Rattle.couch_base.specs.{Among}
 use Rattle.repl_log.specs.declared.replication.RepId.{RepId}
 use Rattle.repl_log.specs.{EntryValue, log_in}
 use Rattle.repl_peer.specs.{BackupValue, PeerValue, SessionValue, copy_of, rep_between, restore_answer, restored}
-use Rattle.repl_target.specs.{AreTiedEntries, IsTiedWith}
+use Rattle.repl_target.specs.{AreTiedEntries, IsTiedWith, Plan}
 use Rattle.repl_target.proofs.{left_log, turned_tied}
-use Rattle.repl_network.specs.Network.{AreConsistent, AreCopiesAt, AreTiedAt, Becomes, ComeFromOthers, IsAdded, IsCopyAt, IsHeldBy, IsNetwork, IsOther, IsReplicated, LeadToOthers, Step, Writes}
+use Rattle.repl_network.specs.Network.{AreChanged, AreConsistent, AreCopiesAt, AreTiedAt, Becomes, ComeFromOthers, IsAdded, IsCopyAt, IsHeldBy, IsNetwork, IsOther, IsReplicated, LeadToOthers, Step, Writes}
 use Rattle.repl_network.specs.Network.{Written, Replicated, BackedUp, Restored, Added}
 use Rattle.repl_network.proofs.Pairs.{written_source, written_target, restores_in, restored_source, restored_target, none_tied, left_of, put_logs}
 
 abbrev uuid_of : PeerValue → ℕ
 uuid_of p = p.db.uuid
 
--- a statement on all backups of a peer, for equal peers
-carry : {K : Type 0} (copy : K → BackupValue → Type 0) (k : K) (c : Choice) (x y x' y' p q p' q' : PeerValue) → x ≡ p → y ≡ q → x' ≡ p' → y' ≡ q' → ((backups : List BackupValue) → IsTiedWith backups x y c → IsTiedWith backups x' y' c) → AreTiedAt copy k p q c → AreTiedAt copy k p' q' c
-carry copy k c x y x' y' p q p' q' i j i' j' f h backups own =
-    subst (λ z. IsTiedWith backups z q' c) i' (subst (λ z. IsTiedWith backups x' z c) j' (f backups (subst (λ z. IsTiedWith backups x z c) (sym j) (subst (λ z. IsTiedWith backups z q c) (sym i) (h backups own)))))
+-- a peer of a network in which at most the peers s and t, with the keys m and n, became s' and t'
+pub data Two {K : Type 0} (m n : K) (s s' t t' : PeerValue) : K → PeerValue → PeerValue → Type 0 where
+  at_source : Two m n s s' t t' m s s'
+  at_target : Two m n s s' t t' n t t'
+  elsewhere : {k : K} {p : PeerValue} → k ≢ m → k ≢ n → Two m n s s' t t' k p p
+
+source_at : {K : Type 0} (m n : K) (s s' t t' : PeerValue) (k : K) (p q : PeerValue) → m ≡ k → s ≡ p → s' ≡ q → Two m n s s' t t' k p q
+source_at m n s s' t t' k p q e f g = subst (λ x. Two m n s s' t t' x p q) e (subst (λ x. Two m n s s' t t' m x q) f (subst (Two m n s s' t t' m s) g at_source))
+
+target_at : {K : Type 0} (m n : K) (s s' t t' : PeerValue) (k : K) (p q : PeerValue) → n ≡ k → t ≡ p → t' ≡ q → Two m n s s' t t' k p q
+target_at m n s s' t t' k p q e f g = subst (λ x. Two m n s s' t t' x p q) e (subst (λ x. Two m n s s' t t' n x q) f (subst (Two m n s s' t t' n t) g at_target))
+
+-- a property of the only changed peer and of the others
+pub one_case : {K : Type 0} (n : K) (old new : PeerValue) (P : K → PeerValue → PeerValue → Type 0) → P n old new → ((k : K) (p : PeerValue) → P k p p) → (k : K) (p q : PeerValue) → Two n n old new old new k p q → P k p q
+one_case n old new P here past k p q at_source = here
+one_case n old new P here past k p q at_target = here
+one_case n old new P here past k p q (elsewhere o u) = past k p
+
+-- every peer before has a peer after, and the reverse
+pub record Moves {K : Type 0} (peers peers' : K → Option PeerValue) (Became : K → PeerValue → PeerValue → Type 0) : Type 0 where
+  pub back : (k : K) (q : PeerValue) → peers' k ≡ Some q → (p : PeerValue) × (peers k ≡ Some p) × Became k p q
+  pub forth : (k : K) (p : PeerValue) → peers k ≡ Some p → (q : PeerValue) × (peers' k ≡ Some q) × Became k p q
+
+pub moves : {K : Type 0} (decide : (m n : K) → (m ≡ n) ⊎ (m ≢ n)) (peers peers' : K → Option PeerValue) (m n : K) (s s' t t' : PeerValue) → AreChanged peers m n s t s' t' peers' → Moves peers peers' (Two m n s s' t t')
+moves decide peers peers' m n s s' t t' c = record {
+  back = λ k q at. elim (decide k m) [
+    | inl e ↦ (s, ap peers e ∙ c.from, source_at m n s s' t t' k s q (sym e) refl (same_Some s' q (sym c.from_then ∙ ap peers' (sym e) ∙ at)))
+    | inr o ↦ elim (decide k n) [
+      | inl e ↦ (t, ap peers e ∙ c.to, target_at m n s s' t t' k t q (sym e) refl (same_Some t' q (sym c.to_then ∙ ap peers' (sym e) ∙ at)))
+      | inr u ↦ (q, sym (c.others k o u) ∙ at, elsewhere o u)
+    ]
+  ];
+  forth = λ k p at. elim (decide k m) [
+    | inl e ↦ (s', ap peers' e ∙ c.from_then, source_at m n s s' t t' k p s' (sym e) (same_Some s p (sym c.from ∙ ap peers (sym e) ∙ at)) refl)
+    | inr o ↦ elim (decide k n) [
+      | inl e ↦ (t', ap peers' e ∙ c.to_then, target_at m n s s' t t' k p t' (sym e) (same_Some t p (sym c.to ∙ ap peers (sym e) ∙ at)) refl)
+      | inr u ↦ (p, c.others k o u ∙ at, elsewhere o u)
+    ]
+  ];
+}
+
+two_uuid : {K : Type 0} (m n : K) (s s' t t' : PeerValue) → uuid_of s' ≡ uuid_of s → uuid_of t' ≡ uuid_of t → (k : K) (p q : PeerValue) → Two m n s s' t t' k p q → uuid_of q ≡ uuid_of p
+two_uuid m n s s' t t' e f k p q at_source = e
+two_uuid m n s s' t t' e f k p q at_target = f
+two_uuid m n s s' t t' e f k p q (elsewhere o u) = refl
+
+-- the peers have the same UUIDs as before
+pub same_uuids : {K : Type 0} (decide : (m n : K) → (m ≡ n) ⊎ (m ≢ n)) (peers peers' : K → Option PeerValue) (m n : K) (s s' t t' : PeerValue) → AreChanged peers m n s t s' t' peers' → uuid_of s' ≡ uuid_of s → uuid_of t' ≡ uuid_of t → (u : ℕ)
+    → (IsHeldBy peers u → IsHeldBy peers' u) × (IsHeldBy peers' u → IsHeldBy peers u)
+same_uuids decide peers peers' m n s s' t t' c e f u = (
+  λ h. (let x = (moves decide peers peers' m n s s' t t' c).forth h.0 h.1 h.2 in (h.0, x.0, x.1, two_uuid m n s s' t t' e f h.0 h.1 x.0 x.2 ∙ h.3)),
+  λ h. (let x = (moves decide peers peers' m n s s' t t' c).back h.0 h.1 h.2 in (h.0, x.0, x.1, sym (two_uuid m n s s' t t' e f h.0 x.0 h.1 x.2) ∙ h.3)),
+)
+
+-- the change of at most two peers keeps all pairs consistent
+pub record KeepsPairs {K : Type 0} (peers : K → Option PeerValue) (copy : K → BackupValue → Type 0) (m n : K) (s s' t t' : PeerValue) : Type 0 where
+  pub source_uuid : uuid_of s' ≡ uuid_of s
+  pub target_uuid : uuid_of t' ≡ uuid_of t
+  pub forward : m ≢ n → (c : Choice) → AreTiedAt copy m s t c → AreTiedAt copy m s' t' c
+  pub reverse : m ≢ n → (c : Choice) → AreTiedAt copy n t s c → AreTiedAt copy n t' s' c
+  pub from_source : (k : K) (q : PeerValue) → k ≢ n → peers k ≡ Some q → (c : Choice) → AreTiedAt copy m s q c → AreTiedAt copy m s' q c
+  pub into_source : (k : K) (p : PeerValue) (c : Choice) → AreTiedAt copy k p s c → AreTiedAt copy k p s' c
+  pub from_target : (q : PeerValue) (c : Choice) → AreTiedAt copy n t q c → AreTiedAt copy n t' q c
+  pub into_target : (k : K) (p : PeerValue) → k ≢ m → peers k ≡ Some p → (c : Choice) → AreTiedAt copy k p t c → AreTiedAt copy k p t' c
 
 module _ {K : Type 0} (decide : (m n : K) → (m ≡ n) ⊎ (m ≢ n)) (peers : K → Option PeerValue) (copy : K → BackupValue → Type 0) where
   -- each peer is consistent with itself too
@@ -66,174 +126,132 @@ module _ {K : Type 0} (decide : (m n : K) → (m ≡ n) ⊎ (m ≢ n)) (peers : 
   -- ---- other peers, and no more backups
 
   module _ (peers' : K → Option PeerValue) (copy' : K → BackupValue → Type 0) (less : (k : K) (b : BackupValue) → copy' k b → copy k b) where
-    -- each peer became another one
-    module _ (Became : K → PeerValue → PeerValue → Type 0) (uuid : (n : K) (p q : PeerValue) → Became n p q → uuid_of q ≡ uuid_of p) (back : (n : K) (q : PeerValue) → peers' n ≡ Some q → (p : PeerValue) × (peers n ≡ Some p) × Became n p q) where
-      became_consistent : AreConsistent peers copy
-          → ((m n : K) (p q p' q' : PeerValue) → m ≢ n → peers m ≡ Some p → peers n ≡ Some q → Became m p p' → Became n q q' → (c : Choice) → AreTiedAt copy m p q c → AreTiedAt copy m p' q' c) → AreConsistent peers' copy'
-      became_consistent h pairs = record {
-        apart = λ m n p q a b e. (let x = back m p a in let y = back n q b in h.apart m n x.0 y.0 x.1 y.1 (sym (uuid m x.0 p x.2) ∙ e ∙ uuid n y.0 q y.2));
-        tied = λ m n p q a b ne c backups own.
-            (let x = back m p a in
-            let y = back n q b in
-            pairs m n x.0 y.0 p q ne x.1 y.1 x.2 y.2 c (h.tied m n x.0 y.0 x.1 y.1 ne c) backups (λ z i. less m z (own z i)));
+    -- at most two peers change
+    module _ (m n : K) (s s' t t' : PeerValue) (c : AreChanged peers m n s t s' t' peers') (f : KeepsPairs peers copy m n s s' t t') where
+      move : Moves peers peers' (Two m n s s' t t')
+      move = moves decide peers peers' m n s s' t t' c
+
+      uuid : (k : K) (p q : PeerValue) → Two m n s s' t t' k p q → uuid_of q ≡ uuid_of p
+      uuid = two_uuid m n s s' t t' f.source_uuid f.target_uuid
+
+      pairs : (k l : K) (p q p' q' : PeerValue) → k ≢ l → peers k ≡ Some p → peers l ≡ Some q → Two m n s s' t t' k p p' → Two m n s s' t t' l q q' → (c : Choice) → AreTiedAt copy k p q c → AreTiedAt copy k p' q' c
+      pairs k l p q p' q' ne at at' at_source at_source c = absurd (ne refl)
+      pairs k l p q p' q' ne at at' at_source at_target c = f.forward ne c
+      pairs k l p q p' q' ne at at' at_source (elsewhere o u) c = f.from_source l q u at' c
+      pairs k l p q p' q' ne at at' at_target at_source c = f.reverse (λ e. ne (sym e)) c
+      pairs k l p q p' q' ne at at' at_target at_target c = absurd (ne refl)
+      pairs k l p q p' q' ne at at' at_target (elsewhere o u) c = f.from_target q c
+      pairs k l p q p' q' ne at at' (elsewhere o u) at_source c = f.into_source k p c
+      pairs k l p q p' q' ne at at' (elsewhere o u) at_target c = f.into_target k p o at c
+      pairs k l p q p' q' ne at at' (elsewhere o u) (elsewhere v w) c = λ h. h
+
+      two_consistent : AreConsistent peers copy → AreConsistent peers' copy'
+      two_consistent h = record {
+        apart = λ k l p q a b e. (let x = move.back k p a in let y = move.back l q b in h.apart k l x.0 y.0 x.1 y.1 (sym (uuid k x.0 p x.2) ∙ e ∙ uuid l y.0 q y.2));
+        tied = λ k l p q a b ne c backups own.
+            (let x = move.back k p a in
+            let y = move.back l q b in
+            pairs k l x.0 y.0 p q ne x.1 y.1 x.2 y.2 c (h.tied k l x.0 y.0 x.1 y.1 ne c) backups (λ z i. less k z (own z i)));
       }
 
-      became_network : ((n : K) (p : PeerValue) → peers n ≡ Some p → (q : PeerValue) × (peers' n ≡ Some q) × Became n p q) → ((n : K) (p q : PeerValue) → peers n ≡ Some p → Became n p q → LeadToOthers peers (uuid_of p) q.outgoing)
-          → ((n : K) (p q : PeerValue) → peers n ≡ Some p → Became n p q → ComeFromOthers peers (uuid_of p) q.sessions) → IsNetwork peers copy → AreConsistent peers' copy' → IsNetwork peers' copy'
-      became_network forth logs sessions h consistent = record {
-        consistent = consistent;
-        copies = λ n b k.
-            (let x = h.copies n b (less n b k) in
-            let q = forth n x.peer x.there in
-            let same = uuid n x.peer q.0 q.2 in
+      two_network : LeadToOthers peers (uuid_of s) s'.outgoing → LeadToOthers peers (uuid_of t) t'.outgoing → ComeFromOthers peers (uuid_of s) s'.sessions → ComeFromOthers peers (uuid_of t) t'.sessions → IsNetwork peers copy → IsNetwork peers' copy'
+      two_network source_logs target_logs source_sessions target_sessions h = record {
+        consistent = two_consistent h.consistent;
+        copies = λ k b i.
+            (let x = h.copies k b (less k b i) in
+            let q = move.forth k x.peer x.there in
+            let same = uuid k x.peer q.0 q.2 in
             record { peer = q.0; there = q.1; uuid = x.uuid ∙ sym same; logs = λ l j. still (uuid_of x.peer) (uuid_of q.0) l.0.target same (x.logs l j) });
-        logs = λ n q at l j. (let x = back n q at in still (uuid_of x.0) (uuid_of q) l.0.target (uuid n x.0 q x.2) (logs n x.0 q x.1 x.2 l j));
-        sessions = λ n q at s j. (let x = back n q at in still (uuid_of x.0) (uuid_of q) s.rep.source (uuid n x.0 q x.2) (sessions n x.0 q x.1 x.2 s j));
+        logs = λ k q at l j. (let x = move.back k q at in still (uuid_of x.0) (uuid_of q) l.0.target (uuid k x.0 q x.2) (logs k x.0 q x.1 x.2 l j));
+        sessions = λ k q at z j. (let x = move.back k q at in still (uuid_of x.0) (uuid_of q) z.rep.source (uuid k x.0 q x.2) (sessions k x.0 q x.1 x.2 z j));
       }
         where
-          held : (u : ℕ) → IsHeldBy peers u → IsHeldBy peers' u
-          held u k = (let q = forth k.0 k.1 k.2 in (k.0, q.0, q.1, uuid k.0 k.1 q.0 q.2 ∙ k.3))
-
           still : (own own' u : ℕ) → own' ≡ own → IsOther peers own u → IsOther peers' own' u
-          still own own' u e o = (held u o.0, λ i. o.1 (i ∙ e))
+          still own own' u e o = (let q = move.forth o.0.0 o.0.1 o.0.2 in ((o.0.0, q.0, q.1, uuid o.0.0 o.0.1 q.0 q.2 ∙ o.0.3), λ i. o.1 (i ∙ e)))
+
+          logs : (k : K) (p q : PeerValue) → peers k ≡ Some p → Two m n s s' t t' k p q → LeadToOthers peers (uuid_of p) q.outgoing
+          logs k p q at at_source = source_logs
+          logs k p q at at_target = target_logs
+          logs k p q at (elsewhere o u) = h.logs k p at
+
+          sessions : (k : K) (p q : PeerValue) → peers k ≡ Some p → Two m n s s' t t' k p q → ComeFromOthers peers (uuid_of p) q.sessions
+          sessions k p q at at_source = source_sessions
+          sessions k p q at at_target = target_sessions
+          sessions k p q at (elsewhere o u) = h.sessions k p at
 
     -- ---- one peer changes
 
-    module _ (n : K) (old new : PeerValue) (c : Becomes peers n old new peers') (same : uuid_of new ≡ uuid_of old) (as_source : (k : K) (q : PeerValue) (chosen : Choice) → k ≡ n → AreTiedAt copy k old q chosen → AreTiedAt copy k new q chosen)
+    module _ (n : K) (old new : PeerValue) (c : Becomes peers n old new peers') (same : uuid_of new ≡ uuid_of old) (as_source : (q : PeerValue) (chosen : Choice) → AreTiedAt copy n old q chosen → AreTiedAt copy n new q chosen)
         (as_target : (p : PeerValue) (chosen : Choice) (backups : List BackupValue) → IsTiedWith backups p old chosen → IsTiedWith backups p new chosen) where
-      abbrev One : K → PeerValue → PeerValue → Type 0
-      One k p q = ((k ≡ n) × (old ≡ p) × (new ≡ q)) ⊎ ((k ≢ n) × (p ≡ q))
-
-      one_uuid : (k : K) (p q : PeerValue) → One k p q → uuid_of q ≡ uuid_of p
-      one_uuid k p q (inl a) = ap uuid_of (sym a.2) ∙ same ∙ ap uuid_of a.1
-      one_uuid k p q (inr a) = ap uuid_of (sym a.1)
-
-      one_back : (k : K) (q : PeerValue) → peers' k ≡ Some q → (p : PeerValue) × (peers k ≡ Some p) × One k p q
-      one_back k q at =
-          elim (decide k n) [
-            | inl e ↦ (old, ap peers e ∙ c.was, inl (e, refl, same_Some new q (sym c.now ∙ ap peers' (sym e) ∙ at)))
-            | inr o ↦ (q, sym (c.others k o) ∙ at, inr (o, refl))
-          ]
-
-      one_forth : (k : K) (p : PeerValue) → peers k ≡ Some p → (q : PeerValue) × (peers' k ≡ Some q) × One k p q
-      one_forth k p at =
-          elim (decide k n) [
-            | inl e ↦ (new, ap peers' e ∙ c.now, inl (e, same_Some old p (sym c.was ∙ ap peers (sym e) ∙ at), refl))
-            | inr o ↦ (p, c.others k o ∙ at, inr (o, refl))
-          ]
-
-      one_pairs : (k l : K) (p q p' q' : PeerValue) → k ≢ l → One k p p' → One l q q' → (chosen : Choice) → AreTiedAt copy k p q chosen → AreTiedAt copy k p' q' chosen
-      one_pairs k l p q p' q' ne (inl a) (inl b) chosen t = absurd (ne (a.0 ∙ sym b.0))
-      one_pairs k l p q p' q' ne (inl a) (inr b) chosen t =
-          subst (λ z. AreTiedAt copy k z q' chosen) a.2 (as_source k q' chosen a.0 (subst (λ z. AreTiedAt copy k old z chosen) b.1 (subst (λ z. AreTiedAt copy k z q chosen) (sym a.1) t)))
-      one_pairs k l p q p' q' ne (inr a) (inl b) chosen t = carry copy k chosen p old p new p q p' q' refl b.1 a.1 b.2 (as_target p chosen) t
-      one_pairs k l p q p' q' ne (inr a) (inr b) chosen t = carry copy k chosen p q p q p q p' q' refl refl a.1 b.1 (λ _ h. h) t
+      one_keeps : KeepsPairs peers copy n n old new old new
+      one_keeps = record {
+        source_uuid = same;
+        target_uuid = same;
+        forward = λ ne. absurd (ne refl);
+        reverse = λ ne. absurd (ne refl);
+        from_source = λ k q o at. as_source q;
+        into_source = λ k p chosen t backups own. as_target p chosen backups (t backups own);
+        from_target = as_source;
+        into_target = λ k p o at chosen t backups own. as_target p chosen backups (t backups own);
+      }
 
       one_consistent : AreConsistent peers copy → AreConsistent peers' copy'
-      one_consistent h = became_consistent One one_uuid one_back h (λ k l p q p' q' ne _ _ a b chosen t. one_pairs k l p q p' q' ne a b chosen t)
+      one_consistent = two_consistent n n old new old new c one_keeps
 
       one_network : LeadToOthers peers (uuid_of old) new.outgoing → ComeFromOthers peers (uuid_of old) new.sessions → IsNetwork peers copy → IsNetwork peers' copy'
-      one_network logs sessions h = became_network One one_uuid one_back one_forth then_logs then_sessions h (one_consistent h.consistent)
-        where
-          then_logs : (k : K) (p q : PeerValue) → peers k ≡ Some p → One k p q → LeadToOthers peers (uuid_of p) q.outgoing
-          then_logs k p q at (inl a) = subst (λ z. LeadToOthers peers (uuid_of z) q.outgoing) a.1 (subst (λ (z : PeerValue). LeadToOthers peers (uuid_of old) z.outgoing) a.2 logs)
-          then_logs k p q at (inr a) = subst (λ (z : PeerValue). LeadToOthers peers (uuid_of p) z.outgoing) a.1 (h.logs k p at)
-
-          then_sessions : (k : K) (p q : PeerValue) → peers k ≡ Some p → One k p q → ComeFromOthers peers (uuid_of p) q.sessions
-          then_sessions k p q at (inl a) = subst (λ z. ComeFromOthers peers (uuid_of z) q.sessions) a.1 (subst (λ (z : PeerValue). ComeFromOthers peers (uuid_of old) z.sessions) a.2 sessions)
-          then_sessions k p q at (inr a) = subst (λ (z : PeerValue). ComeFromOthers peers (uuid_of p) z.sessions) a.1 (h.sessions k p at)
+      one_network logs sessions = two_network n n old new old new c one_keeps logs logs sessions sessions
 
     -- by a local write
     module _ (n : K) (old new : PeerValue) (c : Becomes peers n old new peers') (w : Writes old new) where
+      written_from : (q : PeerValue) (chosen : Choice) → AreTiedAt copy n old q chosen → AreTiedAt copy n new q chosen
+      written_from q chosen t backups own = written_source old new q chosen w backups (t backups own)
+
       pub written_consistent : AreConsistent peers copy → AreConsistent peers' copy'
-      written_consistent = one_consistent n old new c w.later.db.uuid (λ k q chosen _ t backups own. written_source old new q chosen w backups (t backups own)) (λ p chosen. written_target p old new chosen w)
+      written_consistent = one_consistent n old new c w.later.db.uuid written_from (λ p chosen. written_target p old new chosen w)
 
       written_network : IsNetwork peers copy → IsNetwork peers' copy'
       written_network h =
-          one_network n old new c w.later.db.uuid (λ k q chosen _ t backups own. written_source old new q chosen w backups (t backups own)) (λ p chosen. written_target p old new chosen w)
-          (λ l m. h.logs n old c.was l (subst (Among l) w.logs m)) (λ s m. h.sessions n old c.was s (subst (Among s) w.sessions m)) h
+          one_network n old new c w.later.db.uuid written_from (λ p chosen. written_target p old new chosen w)
+          (λ l m. h.logs n old c.from l (subst (Among l) w.logs m)) (λ s m. h.sessions n old c.from s (subst (Among s) w.sessions m)) h
 
     -- by a restore
     restored_network : (n : K) (p : PeerValue) (b : BackupValue) → copy n b → restore_answer p b ≡ Ok tt → Becomes peers n p (restored p b) peers' → IsNetwork peers copy → IsNetwork peers' copy'
     restored_network n p b held can c h =
         let k = restores_in p b tt can in
         let own = h.copies n b held in
-        let same : own.peer ≡ p = same_Some own.peer p (sym own.there ∙ c.was) in
+        let same : own.peer ≡ p = same_Some own.peer p (sym own.there ∙ c.from) in
         one_network n p (restored p b) c k.uuid
-        (λ l q chosen at t backups copies.
-        restored_source p b q chosen k ((t (b ∷ []) (λ x j. elim j [ inl e ↦ subst (copy l) (sym e) (subst (λ z. copy z b) (sym at) held) | inr none ↦ absurd none ])).copies b (inl refl)) backups (t backups copies))
-        (λ q chosen. restored_target q p b chosen k) (subst (λ z. LeadToOthers peers (uuid_of z) b.outgoing) same own.logs) (h.sessions n p c.was) h
+        (λ q chosen t backups copies. restored_source p b q chosen k ((t (b ∷ []) (λ x j. elim j [ inl e ↦ subst (copy n) (sym e) held | inr none ↦ absurd none ])).copies b (inl refl)) backups (t backups copies))
+        (λ q chosen. restored_target q p b chosen k) (subst (λ z. LeadToOthers peers (uuid_of z) b.outgoing) same own.logs) (h.sessions n p c.from) h
 
     -- ---- a replication
 
-    module _ (m n : K) (r : IsReplicated peers m n peers') where
-      abbrev Two : K → PeerValue → PeerValue → Type 0
-      Two k p q = ((k ≡ m) × (r.source ≡ p) × (r.source_then ≡ q)) ⊎ (((k ≡ n) × (r.target ≡ p) × (r.target_then ≡ q)) ⊎ ((k ≢ m) × (k ≢ n) × (p ≡ q)))
+    module _ (m n : K) (plan : Plan) (r : IsReplicated peers m n plan peers') where
+      replicated_keeps : AreConsistent peers copy → KeepsPairs peers copy m n r.source r.source_then r.target r.target_then
+      replicated_keeps h = record {
+        source_uuid = ap uuid_of r.leaves.log;
+        target_uuid = r.later.db.uuid;
+        forward = λ ne c t backups own. r.leaves.tied c backups (t backups own);
+        reverse = λ ne c t backups own. turned_tied r.source r.target r.source_then r.target_then r.leaves.others c backups (t backups own);
+        from_source = λ k q u at c t backups own. r.leaves.others.outward q c backups (λ e. u (h.apart k n q r.target at r.to e)) (t backups own);
+        into_source = λ k p c t backups own. r.leaves.others.inward p c backups (t backups own);
+        from_target = λ q c t backups own. r.leaves.others.onward q c backups (t backups own);
+        into_target = λ k p o at c t backups own. r.leaves.others.beside p c backups (λ e. o (h.apart k m p r.source at r.from e)) (t backups own);
+      }
 
-      two_uuid : (k : K) (p q : PeerValue) → Two k p q → uuid_of q ≡ uuid_of p
-      two_uuid k p q (inl a) = ap uuid_of (sym a.2) ∙ ap uuid_of r.leaves.log ∙ ap uuid_of a.1
-      two_uuid k p q (inr (inl a)) = ap uuid_of (sym a.2) ∙ r.later.db.uuid ∙ ap uuid_of a.1
-      two_uuid k p q (inr (inr a)) = ap uuid_of (sym a.2)
+      pub replicated_consistent : AreConsistent peers copy → AreConsistent peers' copy'
+      replicated_consistent h = two_consistent m n r.source r.source_then r.target r.target_then r.changed (replicated_keeps h) h
 
-      two_back : (k : K) (q : PeerValue) → peers' k ≡ Some q → (p : PeerValue) × (peers k ≡ Some p) × Two k p q
-      two_back k q at =
-          elim (decide k m) [
-            | inl e ↦ (r.source, ap peers e ∙ r.from, inl (e, refl, same_Some r.source_then q (sym r.from_then ∙ ap peers' (sym e) ∙ at)))
-            | inr o ↦ elim (decide k n) [
-              | inl e ↦ (r.target, ap peers e ∙ r.to, inr (inl (e, refl, same_Some r.target_then q (sym r.to_then ∙ ap peers' (sym e) ∙ at))))
-              | inr u ↦ (q, sym (r.others k o u) ∙ at, inr (inr (o, u, refl)))
-            ]
-          ]
-
-      two_forth : (k : K) (p : PeerValue) → peers k ≡ Some p → (q : PeerValue) × (peers' k ≡ Some q) × Two k p q
-      two_forth k p at =
-          elim (decide k m) [
-            | inl e ↦ (r.source_then, ap peers' e ∙ r.from_then, inl (e, same_Some r.source p (sym r.from ∙ ap peers (sym e) ∙ at), refl))
-            | inr o ↦ elim (decide k n) [
-              | inl e ↦ (r.target_then, ap peers' e ∙ r.to_then, inr (inl (e, same_Some r.target p (sym r.to ∙ ap peers (sym e) ∙ at), refl)))
-              | inr u ↦ (p, r.others k o u ∙ at, inr (inr (o, u, refl)))
-            ]
-          ]
-
-      module _ (h : AreConsistent peers copy) where
-        two_pairs : (k l : K) (p q p' q' : PeerValue) → k ≢ l → peers k ≡ Some p → peers l ≡ Some q → Two k p p' → Two l q q' → (c : Choice) → AreTiedAt copy k p q c → AreTiedAt copy k p' q' c
-        two_pairs k l p q p' q' ne at at' (inl a) (inl b) c = absurd (ne (a.0 ∙ sym b.0))
-        two_pairs k l p q p' q' ne at at' (inl a) (inr (inl b)) c = carry copy k c r.source r.target r.source_then r.target_then p q p' q' a.1 b.1 a.2 b.2 (r.leaves.tied c)
-        two_pairs k l p q p' q' ne at at' (inl a) (inr (inr b)) c = carry copy k c r.source q r.source_then q p q p' q' a.1 refl a.2 b.2 (λ backups. r.leaves.others.outward q c backups (λ e. b.1 (h.apart l n q r.target at' r.to e)))
-        two_pairs k l p q p' q' ne at at' (inr (inl a)) (inl b) c = carry copy k c r.target r.source r.target_then r.source_then p q p' q' a.1 b.1 a.2 b.2 (turned_tied r.source r.target r.source_then r.target_then r.leaves.others c)
-        two_pairs k l p q p' q' ne at at' (inr (inl a)) (inr (inl b)) c = absurd (ne (a.0 ∙ sym b.0))
-        two_pairs k l p q p' q' ne at at' (inr (inl a)) (inr (inr b)) c = carry copy k c r.target q r.target_then q p q p' q' a.1 refl a.2 b.2 (r.leaves.others.onward q c)
-        two_pairs k l p q p' q' ne at at' (inr (inr a)) (inl b) c = carry copy k c p r.source p r.source_then p q p' q' refl b.1 a.2 b.2 (r.leaves.others.inward p c)
-        two_pairs k l p q p' q' ne at at' (inr (inr a)) (inr (inl b)) c = carry copy k c p r.target p r.target_then p q p' q' refl b.1 a.2 b.2 (λ backups. r.leaves.others.beside p c backups (λ e. a.0 (h.apart k m p r.source at r.from e)))
-        two_pairs k l p q p' q' ne at at' (inr (inr a)) (inr (inr b)) c = carry copy k c p q p q p q p' q' refl refl a.2 b.2 (λ _ t. t)
-
-        pub replicated_consistent : AreConsistent peers' copy'
-        replicated_consistent = became_consistent Two two_uuid two_back h two_pairs
-
-      module _ (h : IsNetwork peers copy) where
-        differ : uuid_of r.source ≡ uuid_of r.target → ⊥
-        differ e = r.two (h.consistent.apart m n r.source r.target r.from r.to e)
-
-        two_logs : (k : K) (p q : PeerValue) → peers k ≡ Some p → Two k p q → LeadToOthers peers (uuid_of p) q.outgoing
-        two_logs k p q at (inl a) =
-            subst (λ z. LeadToOthers peers (uuid_of z) q.outgoing) a.1 (subst (λ (z : PeerValue). LeadToOthers peers (uuid_of r.source) z.outgoing) a.2
-            (put_logs (IsOther peers (uuid_of r.source)) r.source r.target_then r.plan.chosen r.source_then r.leaves.put ((n, r.target, r.to, sym r.later.db.uuid), λ e. differ (sym e ∙ r.later.db.uuid)) (h.logs m r.source r.from)))
-        two_logs k p q at (inr (inl a)) =
-            subst (λ z. LeadToOthers peers (uuid_of z) q.outgoing) a.1 (subst (λ (z : PeerValue). LeadToOthers peers (uuid_of r.target) z.outgoing) a.2
-            (subst (LeadToOthers peers (uuid_of r.target)) (sym (left_log r.refuses r.source r.target r.plan r.target_then r.leaves.left)) (h.logs n r.target r.to)))
-        two_logs k p q at (inr (inr a)) = subst (λ (z : PeerValue). LeadToOthers peers (uuid_of p) z.outgoing) a.2 (h.logs k p at)
-
-        two_sessions : (k : K) (p q : PeerValue) → peers k ≡ Some p → Two k p q → ComeFromOthers peers (uuid_of p) q.sessions
-        two_sessions k p q at (inl a) =
-            subst (λ z. ComeFromOthers peers (uuid_of z) q.sessions) a.1 (subst (λ (z : PeerValue). ComeFromOthers peers (uuid_of r.source) z.sessions) a.2
-            (subst (λ (z : PeerValue). ComeFromOthers peers (uuid_of r.source) z.sessions) (sym r.leaves.log) (h.sessions m r.source r.from)))
-        two_sessions k p q at (inr (inl a)) =
-            subst (λ z. ComeFromOthers peers (uuid_of z) q.sessions) a.1 (subst (λ (z : PeerValue). ComeFromOthers peers (uuid_of r.target) z.sessions) a.2
-            (left_of (IsOther peers (uuid_of r.target)) r.refuses r.source r.target r.plan r.target_then r.leaves.left ((m, r.source, r.from, refl), differ) (h.sessions n r.target r.to)))
-        two_sessions k p q at (inr (inr a)) = subst (λ (z : PeerValue). ComeFromOthers peers (uuid_of p) z.sessions) a.2 (h.sessions k p at)
-
-        replicated_network : IsNetwork peers' copy'
-        replicated_network = became_network Two two_uuid two_back two_forth two_logs two_sessions h (replicated_consistent h.consistent)
+      replicated_network : IsNetwork peers copy → IsNetwork peers' copy'
+      replicated_network h =
+          two_network m n r.source r.source_then r.target r.target_then r.changed (replicated_keeps h.consistent)
+          (put_logs (IsOther peers (uuid_of r.source)) r.source r.target_then plan.chosen r.source_then r.leaves.put ((n, r.target, r.to, sym r.later.db.uuid), λ e. differ (sym e ∙ r.later.db.uuid)) (h.logs m r.source r.from))
+          (subst (LeadToOthers peers (uuid_of r.target)) (sym (left_log r.refuses r.source r.target plan r.target_then r.leaves.left)) (h.logs n r.target r.to))
+          (subst (λ (z : PeerValue). ComeFromOthers peers (uuid_of r.source) z.sessions) (sym r.leaves.log) (h.sessions m r.source r.from))
+          (left_of (IsOther peers (uuid_of r.target)) r.refuses r.source r.target plan r.target_then r.leaves.left ((m, r.source, r.from, refl), differ) (h.sessions n r.target r.to)) h
+        where
+          differ : uuid_of r.source ≡ uuid_of r.target → ⊥
+          differ e = r.two (h.consistent.apart m n r.source r.target r.from r.to e)
 
     -- ---- one more peer
 
@@ -298,7 +316,7 @@ module _ {K : Type 0} (decide : (m n : K) → (m ≡ n) ⊎ (m ≢ n)) (peers : 
 
   pub step_keeps : (peers' : K → Option PeerValue) (copy' : K → BackupValue → Type 0) → IsNetwork peers copy → Step peers copy peers' copy' → IsNetwork peers' copy'
   step_keeps peers' copy' h (Written n p p' c w less) = written_network peers' copy' less n p p' c w h
-  step_keeps peers' copy' h (Replicated m n r less) = replicated_network peers' copy' less m n r h
+  step_keeps peers' copy' h (Replicated m n plan r less) = replicated_network peers' copy' less m n plan r h
   step_keeps peers' copy' h (BackedUp n p at same more) = subst (λ x. IsNetwork x copy') (sym same) (backed_network copy' n p at more h)
   step_keeps peers' copy' h (Restored n p b held can c less) = restored_network peers' copy' less n p b held can c h
   step_keeps peers' copy' h (Added n x a less) = added_network peers' copy' less n x a h

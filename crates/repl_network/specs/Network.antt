@@ -65,12 +65,17 @@ pub record IsNetwork {K : Type 0} (peers : K → Option PeerValue) (copy : K →
 
 -- ---- steps
 
+-- The value with key m was s and is s', and the value with key n was t and is t'. No other value has changed.
+pub record AreChanged {K X : Type 0} (old : K → Option X) (m n : K) (s t s' t' : X) (new : K → Option X) : Type 0 where
+  pub from : old m ≡ Some s
+  pub to : old n ≡ Some t
+  pub from_then : new m ≡ Some s'
+  pub to_then : new n ≡ Some t'
+  pub others : (k : K) → k ≢ m → k ≢ n → new k ≡ old k
+
 -- In a network, only the peer with the key n has changed: it was p and is p'.
-pub record Becomes {K : Type 0} (peers : K → Option PeerValue) (n : K) (p p' : PeerValue) (peers' : K → Option PeerValue)
-    : Type 0 where
-  pub was : peers n ≡ Some p
-  pub now : peers' n ≡ Some p'
-  pub others : (k : K) → k ≢ n → peers' k ≡ peers k
+abbrev pub Becomes : {K : Type 0} → (K → Option PeerValue) → K → PeerValue → PeerValue → (K → Option PeerValue) → Type 0
+Becomes peers n p p' peers' = AreChanged peers n n p p p' p' peers'
 
 -- Local writes have changed peer p to peer p'. The logs and the sessions of the peer are unchanged.
 pub record Writes (p p' : PeerValue) : Type 0 where
@@ -78,24 +83,20 @@ pub record Writes (p p' : PeerValue) : Type 0 where
   pub logs : p'.outgoing ≡ p.outgoing
   pub sessions : p'.sessions ≡ p.sessions
 
--- A replication by one or several threads has changed two peers of a network, the source with key m and the target with
--- key n. No peer except the source and the target has changed.
-pub record IsReplicated {K : Type 0} (peers : K → Option PeerValue) (m n : K) (peers' : K → Option PeerValue) : Type 0
-  where
-    pub refuses : Document → Bool
-    pub plan : Plan
-    pub source : PeerValue
-    pub target : PeerValue
-    pub source_then : PeerValue
-    pub target_then : PeerValue
-    pub two : m ≢ n
-    pub from : peers m ≡ Some source
-    pub to : peers n ≡ Some target
-    pub from_then : peers' m ≡ Some source_then
-    pub to_then : peers' n ≡ Some target_then
-    pub others : (k : K) → k ≢ m → k ≢ n → peers' k ≡ peers k
-    pub leaves : Leaves refuses source target plan source_then target_then
-    pub later : IsLaterPeer target target_then
+-- A replication by a plan, with one or several threads, has changed two peers of a network: the source with key m and
+-- the target with key n. No peer except the source and the target has changed.
+pub record IsReplicated {K : Type 0} (peers : K → Option PeerValue) (m n : K) (plan : Plan)
+    (peers' : K → Option PeerValue) : Type 0 where
+  pub refuses : Document → Bool
+  pub source : PeerValue
+  pub target : PeerValue
+  pub source_then : PeerValue
+  pub target_then : PeerValue
+  pub two : m ≢ n
+  pub changed : AreChanged peers m n source target source_then target_then peers'
+  pub open changed use *
+  pub leaves : Leaves refuses source target plan source_then target_then
+  pub later : IsLaterPeer target target_then
 
 -- The peer x was added under the key n. The added peer has neither sessions nor logs, and no other peer has the UUID of
 -- the added peer.
@@ -114,7 +115,7 @@ pub data Step {K : Type 0} (peers : K → Option PeerValue) (copy : K → Backup
     (peers' : K → Option PeerValue) (copy' : K → BackupValue → Type 0) : Type 0 where
   Written : (n : K) (p p' : PeerValue) → Becomes peers n p p' peers' → Writes p p'
       → ((k : K) (b : BackupValue) → copy' k b → copy k b) → Step peers copy peers' copy'
-  Replicated : (m n : K) → IsReplicated peers m n peers' → ((k : K) (b : BackupValue) → copy' k b → copy k b)
+  Replicated : (m n : K) (plan : Plan) → IsReplicated peers m n plan peers' → ((k : K) (b : BackupValue) → copy' k b → copy k b)
       → Step peers copy peers' copy'
   BackedUp : (n : K) (p : PeerValue) → peers n ≡ Some p → peers' ≡ peers
       → ((k : K) (b : BackupValue) → copy' k b → copy k b ⊎ (k ≡ n) × (b ≡ copy_of p)) → Step peers copy peers' copy'

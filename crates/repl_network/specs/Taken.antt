@@ -15,6 +15,7 @@ use Rattle.repl_target.specs.replication.Replication.{Replicates}
 use Rattle.repl_network.specs.declared.fault.NetFault.{NetFault}
 use Rattle.repl_network.specs.declared.fault.NetFault.TheVariants as faults
 use Rattle.repl_network.specs.declared.hop.Hop.{Hop}
+use Rattle.repl_network.specs.Network.{AreChanged}
 use Rattle.repl_network.specs.Nets.{IsAt, IsHeldAt, IsHeld}
 use Rattle.repl_network.specs.Hubs.{gathers, spreads}
 
@@ -29,11 +30,9 @@ pub record IsHop {F : Type 0} (refuses : F → Document → Bool) (peers : List 
   pub source_then : PeerValue
   pub target_then : PeerValue
   pub two : hop.from ≢ hop.to
-  pub from : slice_get peers hop.from ≡ Some source
-  pub to : slice_get peers hop.to ≡ Some target
-  pub from_then : slice_get peers' hop.from ≡ Some (source.0, source_then)
-  pub to_then : slice_get peers' hop.to ≡ Some (target.0, target_then)
-  pub others : (n : ℕ) → n ≢ hop.from → n ≢ hop.to → slice_get peers' n ≡ slice_get peers n
+  pub changed : AreChanged (slice_get peers) hop.from hop.to source target (source.0, source_then) (target.0, target_then)
+      (slice_get peers')
+  pub open changed use *
   pub replicates : Replicates (refuses target.0) source.1 target.1 hop.plan result source_then target_then
 
 -- The result of the hop (replication between two peers) with the index `at` in a list of hops, and the network after

@@ -1,10 +1,11 @@
 //! The databases of a script.
-ghost use Rattle.std.specs.Prelude.{◌≡◌, [], false, true, None, IfOk, OnErr, OnOk, option_map};
+ghost use Rattle.std.specs.Prelude.{◌≡◌, [], false, true, None, Err, IfOk, OnErr, OnOk, option_map};
 ghost use Rattle.std.specs.FinMap.{contains_key};
 ghost use Rattle.std.specs.Option.{option_copied};
-ghost use Rattle.script_databases.specs.Consistent.{CoversUpTo, IsConsistent};
-ghost use Rattle.script_databases.specs.Databases.{State, coded_state};
-ghost use Rattle.script_databases.specs.Stored.{IsIndex, AllDeny, beside_of, program_of, state_of};
+ghost use Rattle.script_databases.specs.Consistent.{CoversUpTo, IsConsistent, IsStored};
+ghost use Rattle.script_databases.specs.Databases.{State, coded_state, edited_as, put_back_of};
+ghost use Rattle.script_databases.specs.Refusals.{base_refusal, target_refusal, told_as};
+ghost use Rattle.script_databases.specs.Stored.{beside_of, program_of, state_of};
 
 use crate::backups::{BackupName, Backups};
 use crate::made_ids::MadeIds;
@@ -12,7 +13,7 @@ use crate::pair::{find_both, put_in, take_out};
 use crate::refusal::Refusal;
 use crate::settings::Settings;
 use crate::watched::{Watched, board_for, with_reading};
-use couch_base::Put;
+use couch_base::{BaseFault, Put};
 use doc_json::{Body, Doc, DocId};
 use indexmap::{IndexMap, IndexSet};
 use repl_pool::{Open, PoolFault, Progress, Ran, check_run, run, run_on};
@@ -74,9 +75,7 @@ impl Model for Databases {
 
     ghost view = { λ a. state_of (beside_of a.settings a.drawn a.backups) a.by_name.entries };
 
-    ghost invariant = { λ a. IsIndex (state_of (beside_of a.settings a.drawn a.backups) a.by_name.entries) a.uuids.keys
-        × AllDeny (program_of a.settings).deny a.by_name.entries
-        × IsConsistent (state_of (beside_of a.settings a.drawn a.backups) a.by_name.entries) };
+    ghost invariant = { λ a. IsStored (beside_of a.settings a.drawn a.backups) a.by_name.entries a.uuids.keys };
 }
 
 impl Databases {
@@ -174,6 +173,7 @@ impl Databases {
     {
         let key = String::from_str(alloc, name)?;
         let uuid = peer.db().uuid();
+        peer.law();
         self.by_name.reserve(1)?;
         self.uuids.insert(uuid)?;
         self.by_name.insert(key, peer)?;
@@ -193,8 +193,9 @@ impl Databases {
         let Some(peer) = self.by_name.get_mut(name) else {
             return Err(Refusal::NoDatabase);
         };
-        let put = peer.load(doc)?;
-        Ok(put)
+        let answer = peer.load(doc);
+        peer.law();
+        load_told(answer)
     }
 
     /// Edits a document of a database.
@@ -218,9 +219,9 @@ impl Databases {
         let Some(peer) = self.by_name.get_mut(name) else {
             return Err(Refusal::NoDatabase);
         };
-        let rev = peer.edit(id, parent, deleted, body)?;
-        let seq = peer.db().update_seq();
-        Ok(Edited { rev, seq })
+        let answer = peer.edit(id, parent, deleted, body);
+        peer.law();
+        edit_told(peer, answer)
     }
 
     /// Saves a backup of the database `db` under a name. Returns the update sequence of the backup (docs/PROFILE.md,
@@ -235,7 +236,7 @@ impl Databases {
         ensures ok { OnOk result (self.new ≡ backed_at self.old db.now name.now) }
         ensures err { OnErr result (self.new ≡ self.old) }
     {
-        let Some(peer) = self.by_name.get(db) else {
+        let Some(peer) = self.find(db) else {
             return Err(Refusal::NoDatabase);
         };
         let key = BackupName::new(alloc, db, name)?;
@@ -270,16 +271,26 @@ impl Databases {
     {
         let alloc = *self.by_name.allocator();
         let key = BackupName::new(alloc, db, name)?;
+        let Some(backup) = self.backups.find(&key) else {
+            return Err(self.missing(db));
+        };
         let Some(peer) = self.by_name.get_mut(db) else {
             return Err(Refusal::NoDatabase);
         };
-        let Some(backup) = self.backups.find(&key) else {
-            return Err(Refusal::NoBackup);
-        };
-        peer.restore(backup)?;
-        let seq = peer.db().update_seq();
-        let life = peer.db().life();
-        Ok(PutBack { seq, life })
+        let answer = peer.restore(backup);
+        peer.law();
+        restore_told(peer, answer)
+    }
+
+    /// Returns the reason why a backup does not exist: `NoBackup`, or `NoDatabase` if the name of its database is
+    /// unknown.
+    fn missing(&self, db: &str) -> Refusal
+        ensures { Err result ≡ put_back_answer (peer_at self.now db.now) None }
+    {
+        match self.find(db) {
+            Some(_) => Refusal::NoBackup,
+            None => Refusal::NoDatabase,
+        }
     }
 
     /// Replicates from one existing database to another with a pool of threads. `replicate` blocks until the
@@ -302,7 +313,6 @@ impl Databases {
             (λ report. CoversUpTo self.new source.now target.now plan.now.chosen report.recorded) }
     {
         let (sender, receiver) = find_both(&self.by_name, source, target);
-        receiver.law();
         check_run(sender, receiver, plan)?;
         let (sender, receiver) = take_out(&mut self.by_name, alloc, source, target);
         let Ran {
@@ -312,6 +322,8 @@ impl Databases {
             seats: _,
             outcome,
         } = run(rt, alloc, sender, receiver, plan, &Open);
+        sender.law();
+        receiver.law();
         put_in(&mut self.by_name, source, target, sender, receiver);
         outcome
     }
@@ -338,7 +350,6 @@ impl Databases {
             (λ watched. CoversUpTo self.new source.now target.now plan.now.chosen watched.report.recorded) }
     {
         let (sender, receiver) = find_both(&self.by_name, source, target);
-        receiver.law();
         check_run(sender, receiver, plan)?;
         let (board, seats, mut viewer) = board_for(alloc, plan.workers)?;
         let progress = Progress {
@@ -353,6 +364,8 @@ impl Databases {
             seats: _,
             outcome,
         } = run_on(rt, alloc, sender, receiver, plan, &Open, progress);
+        sender.law();
+        receiver.law();
         put_in(&mut self.by_name, source, target, sender, receiver);
         with_reading(&board, &mut viewer, outcome)
     }
@@ -380,7 +393,45 @@ impl Databases {
         sender.law();
         receiver.law();
         let outcome = replicate_alone(alloc, &mut sender, &mut receiver, plan);
+        sender.law();
+        receiver.law();
         put_in(&mut self.by_name, source, target, sender, receiver);
         outcome
+    }
+}
+
+/// Returns the result of a load with the name of its error.
+fn load_told(answer: Result<Put, BaseFault>) -> Result<Put, Refusal>
+    ensures { result ≡ told_as base_refusal answer }
+{
+    match answer {
+        Ok(put) => Ok(put),
+        Err(fault) => Err(Refusal::from(fault)),
+    }
+}
+
+/// Returns the result of an edit of a peer: the new revision with the peer's update sequence, or the error.
+fn edit_told(peer: &Peer<Rules>, answer: Result<Rev, BaseFault>) -> Result<Edited, Refusal>
+    ensures { result ≡ edited_as peer.now.1 answer }
+{
+    match answer {
+        Ok(rev) => Ok(Edited {
+            rev,
+            seq: peer.db().update_seq(),
+        }),
+        Err(fault) => Err(Refusal::from(fault)),
+    }
+}
+
+/// Returns the result of a restore: the peer's update sequence and life, or the error.
+fn restore_told(peer: &Peer<Rules>, answer: Result<(), TargetFault>) -> Result<PutBack, Refusal>
+    ensures { result ≡ put_back_of peer.now.1 (told_as target_refusal answer) }
+{
+    match answer {
+        Ok(()) => Ok(PutBack {
+            seq: peer.db().update_seq(),
+            life: peer.db().life(),
+        }),
+        Err(fault) => Err(Refusal::from(fault)),
     }
 }
