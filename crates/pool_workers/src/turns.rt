@@ -15,7 +15,8 @@ use crate::brands::{SourceBrand, TargetBrand};
 use crate::context::Context;
 use crate::fault::Halt;
 use crate::gate::Gate;
-use crate::threads::{Ended, Owned, Rest};
+use crate::gather::Rest;
+use crate::threads::{Ended, Owned};
 use crate::windows::WindowPass;
 use crate::worker::{Roles, Worker};
 use progress_board::BoardSeat;
@@ -67,7 +68,7 @@ impl<F: WriteFilter, S: SourceBrand, T: TargetBrand<F>, L: Ledger, G: Gate, R: W
                 }
                 Err(halt) => return Some(halt),
             }
-            let _more = self.take_turn(worker);
+            self.take_turn(worker);
         }
         None
     }
@@ -88,9 +89,24 @@ impl<F: WriteFilter, S: SourceBrand, T: TargetBrand<F>, L: Ledger, G: Gate, R: W
         };
         let mut rest = self.before_workers(roles, owned);
         let mut worker = self.new_worker(roles, 0, &mut rest);
-        rest.ended.read = self.read_in_turn(start, &mut rest.ended.windows, &mut worker);
+        let read = self.read_in_turn(start, &mut rest.windows, &mut worker);
         self.take_in(&mut rest, worker);
-        let Rest { ended, seats } = rest;
+        let Rest {
+            windows,
+            parcels,
+            all,
+            fetched,
+            written,
+            seats,
+        } = rest;
+        let ended = Ended {
+            windows,
+            parcels,
+            all,
+            read,
+            fetched,
+            written,
+        };
         (ended, seats)
     }
 }
