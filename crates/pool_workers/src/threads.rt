@@ -111,8 +111,8 @@ impl<
         (Some(ended), seats)
     }
 
-    /// Runs the workers on threads of one scope (`in_scope`). If the gate (a callback) never blocks a worker, each worker fetches
-    /// and writes, so a run needs half as many threads. If such a run has only one worker, the worker runs on the
+    /// Runs the workers on threads of one scope (`in_scope`). If the gate (a callback) never blocks a worker, each worker
+    /// fetches and writes, so a run needs half as many threads. If such a run has only one worker, the worker runs on the
     /// caller's thread (`in_turn`).
     pub fn with_workers(
         &'e self,

@@ -40,9 +40,8 @@ pub struct Roles {
 }
 
 impl Roles {
-    /// Returns the roles of a run with the given number of fetchers. If the gate (a callback) may block a worker, no worker has both
-    /// roles, so a blocked fetcher does not keep a writer from writing. If the gate never blocks, each worker has both
-    /// roles.
+    /// Returns the roles of a run. If the gate (a callback) may block a worker, no worker has both roles, so a blocked
+    /// fetcher blocks no writer. If the gate never blocks, each worker has both roles.
     pub fn of(workers: usize, may_block: bool) -> Roles
         ensures workers { result.workers ≡ workers }
         ensures alone { result.alone ≤ workers }
