@@ -1,9 +1,9 @@
 -- What the caller's thread has, as workers start and end.
-use Rattle.proof_prelude.proofs.{◌≡◌, ℕ, sum, ◌+◌, ◌-◌, ◌<◌, ◌≤◌, List, [], ◌∷◌, ◌++◌, length, Option, None, Some, IfSome, option_to_list, vec_len, vec_capacity, refl, sym, ap, ◌∙◌, subst, arith, append-nil, append_assoc}
+use Rattle.proof_prelude.proofs.{◌≡◌, ℕ, sum, ◌+◌, ◌<◌, ◌≤◌, List, [], ◌∷◌, ◌++◌, length, Option, None, Some, IfSome, option_to_list, vec_len, vec_capacity, refl, sym, ap, ◌∙◌, subst, arith, append-nil}
 use Rattle.crossbeam_channel.specs.Claims.{view, IsSeatAt}
 use Rattle.crossbeam_channel.specs.Ends.{sends_on}
 use Rattle.progress_board.specs.{Board, BoardSeat}
-use Rattle.pool_workers.specs.{total, held, Channels, Place, Halt, Rest, Worker, Writer, WindowView, ParcelView, window_view, amounts, names, FetchedKnows, WrittenKnows, WriterShows, IsIdleWriter, Tells, Allows, AllowsOn, MayFill, IsOneOf, AreSeats, AreBack, HaveShown, HasRest, HaveEnded, IsReady, IsStarting, Owned, Roles, IsIdle, Shows, Keeps, fetchers_in, writers_in, seat_of}
+use Rattle.pool_workers.specs.{total, held, Channels, Place, Halt, Rest, Worker, Writer, WindowView, ParcelView, window_view, amounts, names, FetchedKnows, WrittenKnows, WriterShows, Allows, AllowsOn, MayFill, IsOneOf, AreBack, HaveShown, HasRest, HaveEnded, IsReady, IsStarting, Owned, Roles, Keeps, fetchers_in, writers_in, seat_of}
 use Rattle.pool_workers.specs.declared.fault.Halt.TheVariants as halts
 use Rattle.pool_workers.proofs.Sums.{total_snoc}
 use Rattle.pool_workers.proofs.Boarding.{held_push, back_one, back_length, back_same, seats_seated, shown_none, shown_one}

@@ -1,7 +1,5 @@
-//! Runs the only worker of a run on the thread that reads the windows.
-//!
-//! One fetcher and one writer on two threads would still settle one document at a time, and would move data between the
-//! processors' caches.
+//! Runs the only worker of a run on the thread that reads the windows. A second thread would settle no document
+//! earlier, and would move data between the processors' caches.
 ghost use Rattle.std.specs.Prelude.{◌≡◌, ℕ, ◌<◌, [], true, Option, Some, IfSome, option_copied};
 ghost use Rattle.crossbeam_channel.specs.Claims.{view, IsSeatAt};
 ghost use Rattle.crossbeam_channel.specs.Ends.{sends_on};
@@ -73,8 +71,7 @@ impl<F: WriteFilter, S: SourceBrand, T: TargetBrand<F>, L: Ledger, G: Gate, R: W
         None
     }
 
-    /// Runs the only worker of a run on this thread. Returns the results of the worker, and the seats of the progress
-    /// board.
+    /// Runs the only worker of a run on this thread. Returns the worker's results and the seats of the progress board.
     pub fn in_turn(&self, start: u64, owned: Owned<S, L>) -> (Ended<S, L>, Vec<BoardSeat>)
         requires source { S.source ≡ self.now.source.now.1.db }
         requires plan { S.plan ≡ self.now.plan.now }

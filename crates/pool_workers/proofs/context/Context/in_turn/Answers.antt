@@ -1,4 +1,4 @@
-use Rattle.proof_prelude.proofs.{◌≡◌, [], Some, Vec, Global, subst, option_copied}
+use Rattle.proof_prelude.proofs.{[], Some, Vec, Global, subst, option_copied}
 use Rattle.progress_board.specs.{BoardSeat}
 use Rattle.pool_workers.specs.{HaveEnded, seat_of}
 use Rattle.pool_workers.proofs.{ended_all, keeps_roles, reads}

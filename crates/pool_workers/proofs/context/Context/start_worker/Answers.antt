@@ -1,4 +1,4 @@
-use Rattle.proof_prelude.proofs.{◌≡◌, ◌∙◌, ap, sym, subst, option_copied}
+use Rattle.proof_prelude.proofs.{◌∙◌, ap, sym, subst, option_copied}
 use Rattle.pool_workers.specs.{Worker, WorkerPromise, Keeps, HasStarted, seat_of}
 use Rattle.pool_workers.proofs.{keeps_roles, tells_ends}
 use Rattle.pool_workers.proofs.context.Context.start_worker.Goals as goal

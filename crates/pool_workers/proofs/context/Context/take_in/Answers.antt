@@ -1,4 +1,4 @@
-use Rattle.proof_prelude.proofs.{◌≡◌, ◌+◌, ◌++◌, ◌∙◌, refl, ap, subst, add-zero, option_copied, option_to_list}
+use Rattle.proof_prelude.proofs.{◌+◌, ◌∙◌, refl, ap, subst, add-zero, option_copied}
 use Rattle.pool_workers.specs.{Worker, Rest, IsIdle, Shows, HasRest, fetchers_in, writers_in}
 use Rattle.pool_workers.proofs.{recount, takes_fetcher, takes_writer}
 use Rattle.pool_workers.proofs.context.Context.take_in.Goals as goal
