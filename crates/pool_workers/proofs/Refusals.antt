@@ -1,10 +1,10 @@
 -- The errors of a worker's call on the target.
-use Rattle.proof_prelude.proofs.{◌≡◌, ℕ, ◌<◌, ◌≤◌, ◌==◌, nat_lt, Bool, cond, Option, None, Some, Result, Ok, Err, IfErr, IfSome, sym, ap, ◌∙◌, subst, arith, cond_both, cond-true, cond-false, eq-eqb, le-ltb, list_all}
+use Rattle.proof_prelude.proofs.{◌≡◌, ◌≤◌, ◌==◌, nat_lt, Bool, cond, Option, None, Some, Result, Ok, Err, IfErr, sym, ap, ◌∙◌, subst, arith, cond_both, cond-true, cond-false, eq-eqb, le-ltb, list_all}
 use Rattle.rev_tree.specs.{SessionId}
 use Rattle.doc_json.specs.Document.{Document}
 use Rattle.couch_base.specs.{DatabaseValue, WindowValue, ParcelValue}
 use Rattle.range_front.specs.{low_water, is_done, end_of}
-use Rattle.repl_peer.specs.{PeerValue, SessionValue, GivesUnlessMemory, session_in, found_answer, next_in, append_in, append_answer, record_answer, has_row, has_room, window_in, settle_at, settle_check, SettlesAt, Settles, SettleGives, Settled, TargetFault}
+use Rattle.repl_peer.specs.{PeerValue, SessionValue, GivesUnlessMemory, found_answer, next_in, append_in, append_answer, record_answer, has_row, has_room, window_in, settle_at, settle_check, SettlesAt, Settles, SettleGives, Settled, TargetFault}
 use Rattle.repl_peer.specs.declared.fault.TargetFault.TheVariants as refusals
 use Rattle.repl_target.specs.{Plan}
 use Rattle.repl_target.proofs.{page_within}

@@ -1,9 +1,9 @@
 -- What the caller's thread has, as workers start and end.
-use Rattle.proof_prelude.proofs.{◌≡◌, ℕ, sum, ◌+◌, ◌-◌, ◌<◌, ◌≤◌, List, [], ◌∷◌, ◌++◌, length, Option, None, Some, IfSome, option_to_list, vec_len, vec_capacity, refl, sym, ap, ◌∙◌, subst, arith, append-nil, append_assoc}
+use Rattle.proof_prelude.proofs.{◌≡◌, ℕ, sum, ◌+◌, ◌<◌, ◌≤◌, List, [], ◌∷◌, ◌++◌, length, Option, None, Some, IfSome, option_to_list, vec_len, vec_capacity, refl, sym, ap, ◌∙◌, subst, arith, append-nil}
 use Rattle.crossbeam_channel.specs.Claims.{view, IsSeatAt}
 use Rattle.crossbeam_channel.specs.Ends.{sends_on}
 use Rattle.progress_board.specs.{Board, BoardSeat}
-use Rattle.pool_workers.specs.{total, held, Channels, Place, Halt, Rest, Worker, Writer, WindowView, ParcelView, window_view, amounts, names, FetchedKnows, WrittenKnows, WriterShows, IsIdleWriter, Tells, Allows, AllowsOn, MayFill, IsOneOf, AreSeats, AreBack, HaveShown, HasRest, HaveEnded, IsReady, IsStarting, Owned, Roles, IsIdle, Shows, Keeps, fetchers_in, writers_in, seat_of}
+use Rattle.pool_workers.specs.{total, held, Channels, Place, Halt, Rest, Worker, Writer, WindowView, ParcelView, window_view, amounts, names, FetchedKnows, WrittenKnows, WriterShows, Allows, AllowsOn, MayFill, IsOneOf, AreBack, HaveShown, HasRest, HaveEnded, IsReady, IsStarting, Owned, Roles, Keeps, fetchers_in, writers_in, seat_of}
 use Rattle.pool_workers.specs.declared.fault.Halt.TheVariants as halts
 use Rattle.pool_workers.proofs.Sums.{total_snoc}
 use Rattle.pool_workers.proofs.Boarding.{held_push, back_one, back_length, back_same, seats_seated, shown_none, shown_one}
@@ -34,11 +34,11 @@ recount P m n k j l r e f h p = subst (λ x. P x j r) e (subst (λ x. P m x r) f
 module _ {S L : Type 0} {channels : Channels S} {board : Option Board} {may : Place → Type 0} {workers : ℕ} {given : List BoardSeat} where
   -- a fetcher's parts come back
   pub takes_fetcher : {fetchers writers : ℕ} {held : List BoardSeat} {r : Rest S L} (t : Rest S L) (o : Option Halt) → HasRest channels board may workers given (fetchers + 1) writers held r
-      → IsSeatAt (sends_on channels.to_fetchers) t.ended.windows → (view t.ended.windows).parts ≡ (view r.ended.windows).parts + 1
-      → IsSeatAt (sends_on channels.to_writers) t.ended.parcels → (view t.ended.parcels).parts ≡ (view r.ended.parcels).parts + 1 → (view t.ended.parcels).got ≡ (view r.ended.parcels).got
-      → FetchedKnows (view t.ended.windows) (view t.ended.parcels) t.ended.fetched → IfSome t.ended.fetched.stopped (IsOneOf r.ended.fetched.stopped o) → IfSome o (Allows may)
-      → vec_len t.ended.fetched.counts ≡ vec_len r.ended.fetched.counts + 1 → vec_capacity t.ended.fetched.counts ≡ vec_capacity r.ended.fetched.counts
-      → HasRest channels board may workers given fetchers writers held (record r { ended = record r.ended { windows = t.ended.windows; parcels = t.ended.parcels; fetched = t.ended.fetched } })
+      → IsSeatAt (sends_on channels.to_fetchers) t.windows → (view t.windows).parts ≡ (view r.windows).parts + 1
+      → IsSeatAt (sends_on channels.to_writers) t.parcels → (view t.parcels).parts ≡ (view r.parcels).parts + 1 → (view t.parcels).got ≡ (view r.parcels).got
+      → FetchedKnows (view t.windows) (view t.parcels) t.fetched → IfSome t.fetched.stopped (IsOneOf r.fetched.stopped o) → IfSome o (Allows may)
+      → vec_len t.fetched.counts ≡ vec_len r.fetched.counts + 1 → vec_capacity t.fetched.counts ≡ vec_capacity r.fetched.counts
+      → HasRest channels board may workers given fetchers writers held (record r { windows = t.windows; parcels = t.parcels; fetched = t.fetched })
   takes_fetcher {fetchers} {writers} {held} {r} t o h window_seat windows parcel_seat parcels got knows told allowed more same =
       record {
         window_seat = window_seat;
@@ -48,7 +48,7 @@ module _ {S L : Type 0} {channels : Channels S} {board : Option Board} {may : Pl
         all = h.all;
         counts = omega (arith, more, same, h.counts);
         tells = (knows, λ none. let k = h.tells.1 none in (k.0 ∙ ap amounts (sym got), k.1 ∙ ap (length {A = ℕ × ℕ}) (sym got)));
-        halted = (h.halted.0, one_of (Allows may) t.ended.fetched.stopped r.ended.fetched.stopped o tt told h.halted.1 allowed, h.halted.2);
+        halted = (one_of (Allows may) t.fetched.stopped r.fetched.stopped o tt told h.halted.0 allowed, h.halted.1);
         back = h.back;
         shown = h.shown;
         room = h.room;
@@ -56,11 +56,11 @@ module _ {S L : Type 0} {channels : Channels S} {board : Option Board} {may : Pl
 
   -- a writer's parts and its seat come back
   pub takes_writer : {fetchers writers : ℕ} {r : Rest S L} (held : List BoardSeat) (seat : Option BoardSeat) (one : Writer S L) (t : Rest S L) → HasRest channels board may workers given fetchers (writers + 1) (option_to_list seat ++ held) r
-      → IsSeatAt (sends_on channels.to_writers) t.ended.parcels → (view t.ended.parcels).parts ≡ (view r.ended.parcels).parts + 1 → (view t.ended.parcels).sent ≡ (view r.ended.parcels).sent
-      → t.ended.all.parts ≡ r.ended.all.parts + 1 → t.ended.all.amount ≡ r.ended.all.amount + one.share.amount → WrittenKnows (view t.ended.parcels) t.ended.all.amount t.ended.written
-      → IfSome t.ended.written.stopped (IsOneOf r.ended.written.stopped one.stopped) → (t.ended.written.stopped ≡ None → (r.ended.written.stopped ≡ None) × (one.stopped ≡ None)) → IfSome one.stopped (AllowsOn (MayFill board) may)
+      → IsSeatAt (sends_on channels.to_writers) t.parcels → (view t.parcels).parts ≡ (view r.parcels).parts + 1 → (view t.parcels).sent ≡ (view r.parcels).sent
+      → t.all.parts ≡ r.all.parts + 1 → t.all.amount ≡ r.all.amount + one.share.amount → WrittenKnows (view t.parcels) t.all.amount t.written
+      → IfSome t.written.stopped (IsOneOf r.written.stopped one.stopped) → (t.written.stopped ≡ None → (r.written.stopped ≡ None) × (one.stopped ≡ None)) → IfSome one.stopped (AllowsOn (MayFill board) may)
       → WriterShows board seat one → t.seats.items ≡ r.seats.items ++ option_to_list one.seat → vec_capacity t.seats ≡ vec_capacity r.seats
-      → HasRest channels board may workers given fetchers writers held (record { ended = record r.ended { parcels = t.ended.parcels; all = t.ended.all; written = t.ended.written }; seats = t.seats })
+      → HasRest channels board may workers given fetchers writers held (record r { parcels = t.parcels; all = t.all; written = t.written; seats = t.seats })
   takes_writer {fetchers} {writers} {r} held seat one t h parcel_seat parcels sent parts amount knows told free allowed shows is capacity =
       let gs = option_to_list seat in
       let ts = option_to_list one.seat in
@@ -73,12 +73,12 @@ module _ {S L : Type 0} {channels : Channels S} {board : Option Board} {may : Pl
         all = omega (arith, parts, h.all);
         counts = h.counts;
         tells = (λ none. let k = h.tells.0 none in (k.0 ∙ ap amounts (sym sent), k.1 ∙ ap (length {A = ℕ × ℕ}) (sym sent), k.2 ∙ ap names (sym sent)), knows);
-        halted = (h.halted.0, h.halted.1, one_of (AllowsOn (MayFill board) may) t.ended.written.stopped r.ended.written.stopped one.stopped tt told h.halted.2 allowed);
+        halted = (h.halted.0, one_of (AllowsOn (MayFill board) may) t.written.stopped r.written.stopped one.stopped tt told h.halted.1 allowed);
         back = back;
         shown =
-            subst (λ l. HaveShown board t.ended.all.amount t.ended.written.stopped given (l ++ held)) (sym is)
-            (subst (λ n. HaveShown board n t.ended.written.stopped given (r.seats.items ++ ts ++ held)) (sym amount)
-            (shown_one board r.ended.all.amount one.share.amount r.ended.written.stopped one.stopped t.ended.written.stopped given r.seats.items gs ts held h.shown shows.1 free));
+            subst (λ l. HaveShown board t.all.amount t.written.stopped given (l ++ held)) (sym is)
+            (subst (λ n. HaveShown board n t.written.stopped given (r.seats.items ++ ts ++ held)) (sym amount)
+            (shown_one board r.all.amount one.share.amount r.written.stopped one.stopped t.written.stopped given r.seats.items gs ts held h.shown shows.1 free));
         room = omega (arith, back_length board given (t.seats.items ++ held) back, back_length board given (r.seats.items ++ (gs ++ held)) h.back, h.room, capacity);
       }
 
@@ -89,9 +89,9 @@ module _ {S L : Type 0} {channels : Channels S} {board : Option Board} {may : Pl
       recount (λ m n l. HasRest channels board may workers given m n l t) _ _ _ _ _ _ (ap (λ n. fetchers + n) (sym k.fetchers)) (ap (λ n. writers + n) (sym k.writers)) refl h
 
   -- end messages change nothing
-  pub tells_ends : {fetchers writers : ℕ} {held : List BoardSeat} {r : Rest S L} (t : Rest S L) → HasRest channels board may workers given fetchers writers held r → IsSeatAt (sends_on channels.to_fetchers) t.ended.windows × (view t.ended.windows ≡ view r.ended.windows)
-      → IsSeatAt (sends_on channels.to_writers) t.ended.parcels × (view t.ended.parcels ≡ view r.ended.parcels)
-      → HasRest channels board may workers given fetchers writers held (record r { ended = record r.ended { windows = t.ended.windows; parcels = t.ended.parcels } })
+  pub tells_ends : {fetchers writers : ℕ} {held : List BoardSeat} {r : Rest S L} (t : Rest S L) → HasRest channels board may workers given fetchers writers held r → IsSeatAt (sends_on channels.to_fetchers) t.windows × (view t.windows ≡ view r.windows)
+      → IsSeatAt (sends_on channels.to_writers) t.parcels × (view t.parcels ≡ view r.parcels)
+      → HasRest channels board may workers given fetchers writers held (record r { windows = t.windows; parcels = t.parcels })
   tells_ends {fetchers} {writers} {held} {r} t h windows parcels = record {
     window_seat = windows.0;
     window_parts = subst (λ (v : WindowView). (0 < v.parts) × (v.parts + fetchers ≡ 1024)) (sym windows.1) h.window_parts;
@@ -100,8 +100,8 @@ module _ {S L : Type 0} {channels : Channels S} {board : Option Board} {may : Pl
     all = h.all;
     counts = h.counts;
     tells =
-        subst (λ (v : WindowView). FetchedKnows v (view t.ended.parcels) r.ended.fetched × WrittenKnows (view t.ended.parcels) r.ended.all.amount r.ended.written) (sym windows.1)
-        (subst (λ (v : ParcelView). FetchedKnows (view r.ended.windows) v r.ended.fetched × WrittenKnows v r.ended.all.amount r.ended.written) (sym parcels.1) h.tells);
+        subst (λ (v : WindowView). FetchedKnows v (view t.parcels) r.fetched × WrittenKnows (view t.parcels) r.all.amount r.written) (sym windows.1)
+        (subst (λ (v : ParcelView). FetchedKnows (view r.windows) v r.fetched × WrittenKnows v r.all.amount r.written) (sym parcels.1) h.tells);
     halted = h.halted;
     back = h.back;
     shown = h.shown;
@@ -109,10 +109,10 @@ module _ {S L : Type 0} {channels : Channels S} {board : Option Board} {may : Pl
   }
 
   -- the caller's thread has read windows
-  pub reads : {fetchers writers : ℕ} {held : List BoardSeat} {r : Rest S L} (t : Rest S L) → HasRest channels board may workers given fetchers writers held r → view r.ended.windows ≡ window_view (view r.ended.windows).parts 1 0 []
-      → IsSeatAt (sends_on channels.to_fetchers) t.ended.windows → (n : ℕ) × (view t.ended.windows ≡ window_view (view r.ended.windows).parts 1 n []) → IfSome t.ended.read (Allows (λ _. ⊥))
-      → HasRest channels board may workers given fetchers writers held (record r { ended = record r.ended { windows = t.ended.windows; read = t.ended.read } })
-  reads {fetchers} {writers} {held} {r} t h unread seat windows free =
+  pub reads : {fetchers writers : ℕ} {held : List BoardSeat} {r : Rest S L} (t : Rest S L) → HasRest channels board may workers given fetchers writers held r → view r.windows ≡ window_view (view r.windows).parts 1 0 []
+      → IsSeatAt (sends_on channels.to_fetchers) t.windows → (n : ℕ) × (view t.windows ≡ window_view (view r.windows).parts 1 n [])
+      → HasRest channels board may workers given fetchers writers held (record r { windows = t.windows })
+  reads {fetchers} {writers} {held} {r} t h unread seat windows =
       let parts = ap (λ (v : WindowView). v.parts) windows.1 in
       let taken = ap (λ (v : WindowView). v.taken) windows.1 in
       let none = ap (λ (v : WindowView). v.taken) unread in
@@ -124,22 +124,23 @@ module _ {S L : Type 0} {channels : Channels S} {board : Option Board} {may : Pl
         all = h.all;
         counts = h.counts;
         tells = (λ free. let k = h.tells.0 free in (k.0, k.1, taken ∙ sym none ∙ k.2), h.tells.1);
-        halted = (some_more may t.ended.read free, h.halted.1, h.halted.2);
+        halted = h.halted;
         back = h.back;
         shown = h.shown;
         room = h.room;
       }
 
   -- no worker runs any more
-  pub ended_all : {r : Rest S L} → HasRest channels board may workers given 0 0 [] r → HaveEnded channels board may workers given (Some r.ended) r.seats.items
-  ended_all {r} h = record {
+  pub ended_all : {r : Rest S L} (read : Option Halt) → IfSome read (Allows (λ _. ⊥)) → HasRest channels board may workers given 0 0 [] r
+      → HaveEnded channels board may workers given (Some (record { windows = r.windows; parcels = r.parcels; all = r.all; read = read; fetched = r.fetched; written = r.written })) r.seats.items
+  ended_all {r} read free h = record {
     window_seat = h.window_seat;
     parcel_seat = h.parcel_seat;
     whole = (omega (arith, h.window_parts.1), omega (arith, h.parcel_parts.1), omega (arith, h.all));
     tells = h.tells;
-    halted = h.halted;
+    halted = (some_more may read free, h.halted.0, h.halted.1);
     back = subst (AreBack board given) (append-nil r.seats.items) h.back;
-    shown = subst (HaveShown board r.ended.all.amount r.ended.written.stopped given) (append-nil r.seats.items) h.shown;
+    shown = subst (HaveShown board r.all.amount r.written.stopped given) (append-nil r.seats.items) h.shown;
   }
 
   pub ended_early : {r : Rest S L} → HasRest channels board may workers given 0 0 [] r → HaveEnded {S = S} {L = L} channels board may workers given None r.seats.items
@@ -155,7 +156,7 @@ module _ {S L : Type 0} {channels : Channels S} {board : Option Board} {may : Pl
 
 -- no worker has started yet
 pub starts_empty : {S L : Type 0} (channels : Channels S) (board : Option Board) (may : Place → Type 0) (roles : Roles) (o : Owned S L) → IsReady channels board roles.workers o → vec_len o.counts ≡ 0 → length o.seats.items ≤ vec_capacity o.seats
-    → IsStarting channels board may roles o.seats.items 0 0 0 [] (record { ended = record { windows = o.windows; parcels = o.parcels; all = o.all; read = None; fetched = record { counts = o.counts; sent = 0; stopped = None }; written = record { got = 0; stopped = None } }; seats = o.seats })
+    → IsStarting channels board may roles o.seats.items 0 0 0 [] (record { windows = o.windows; parcels = o.parcels; all = o.all; fetched = record { counts = o.counts; sent = 0; stopped = None }; written = record { got = 0; stopped = None }; seats = o.seats })
 starts_empty channels board may roles o h none limit =
     let w = ap (λ (v : WindowView). v.parts) h.windows.1 in
     let taken = ap (λ (v : WindowView). v.taken) h.windows.1 in
@@ -174,7 +175,7 @@ starts_empty channels board may roles o h none limit =
         all = omega (arith, h.all.0);
         counts = omega (arith, none, h.counts.1);
         tells = (λ _. (ap sum h.counts.0 ∙ ap amounts (sym sent), ap (length {A = ℕ × ℕ}) (sym sent), taken ∙ ap names (sym sent)), λ _. (settled ∙ ap amounts (sym got), ap (length {A = ℕ × ℕ}) (sym got)));
-        halted = (tt, tt, tt);
+        halted = (tt, tt);
         back = subst (AreBack board o.seats.items) (sym same) (back_same board o.seats.items (seats_seated board 0 roles.workers o.seats.items h.seats));
         shown = subst (HaveShown board o.all.amount None o.seats.items) (sym same) (subst (λ n. HaveShown board n None o.seats.items o.seats.items) (sym settled) (shown_none board o.seats.items));
         room = omega (arith, long, limit);

@@ -31,7 +31,7 @@ pub use declared.parcels.ParcelMessage.{ParcelMessage}
 pub use declared.parcels.ParcelView.{ParcelView}
 pub use declared.threads.Ended.{Ended}
 pub use declared.threads.Owned.{Owned}
-pub use declared.threads.Rest.{Rest}
+pub use declared.gather.Rest.{Rest}
 pub use declared.windows.WindowMessage.{WindowMessage}
 pub use declared.windows.WindowView.{WindowView}
 pub use declared.worker.Roles.{Roles}

@@ -9,11 +9,12 @@ use Rattle.pool_workers.specs.declared.channels.Channels.{Channels}
 use Rattle.pool_workers.specs.declared.gate.Place.{Place}
 use Rattle.pool_workers.specs.declared.threads.Ended.{Ended}
 use Rattle.pool_workers.specs.declared.threads.Owned.{Owned}
-use Rattle.pool_workers.specs.declared.threads.Rest.{Rest}
+use Rattle.pool_workers.specs.declared.gather.Rest.{Rest}
 use Rattle.pool_workers.specs.declared.worker.Roles.{Roles}
 use Rattle.pool_workers.specs.declared.worker.Worker.{Worker}
 use Rattle.pool_workers.specs.Boards.{MayFill, AreSeats, AreBack, HaveShown}
-use Rattle.pool_workers.specs.Gathered.{IsWhole, Tells, StopsWhere}
+use Rattle.pool_workers.specs.Faults.{AllowsOn, Allows}
+use Rattle.pool_workers.specs.Gathered.{FetchedKnows, WrittenKnows, IsWhole, Tells, StopsWhere}
 use Rattle.pool_workers.specs.Idle.{fetchers_in, writers_in, seat_of}
 use Rattle.pool_workers.specs.Parcels.{parcel_view}
 use Rattle.pool_workers.specs.Windows.{window_view}
@@ -51,16 +52,16 @@ pub record HaveEnded {S L : Type 0} (channels : Channels S) (board : Option Boar
 -- that have ended.
 pub record HasRest {S L : Type 0} (channels : Channels S) (board : Option Board) (may_stop : Place → Type 0)
     (workers : ℕ) (given : List BoardSeat) (fetchers writers : ℕ) (held : List BoardSeat) (r : Rest S L) : Type 0 where
-  pub window_seat : IsSeatAt (sends_on channels.to_fetchers) r.ended.windows
-  pub window_parts : (0 < (view r.ended.windows).parts) × ((view r.ended.windows).parts + fetchers ≡ 1024)
-  pub parcel_seat : IsSeatAt (sends_on channels.to_writers) r.ended.parcels
-  pub parcel_parts : (0 < (view r.ended.parcels).parts) × ((view r.ended.parcels).parts + (fetchers + writers) ≡ 1024)
-  pub all : r.ended.all.parts + writers ≡ workers
-  pub counts : vec_len r.ended.fetched.counts + fetchers ≤ vec_capacity r.ended.fetched.counts
-  pub tells : Tells r.ended
-  pub halted : StopsWhere (MayFill board) may_stop r.ended
+  pub window_seat : IsSeatAt (sends_on channels.to_fetchers) r.windows
+  pub window_parts : (0 < (view r.windows).parts) × ((view r.windows).parts + fetchers ≡ 1024)
+  pub parcel_seat : IsSeatAt (sends_on channels.to_writers) r.parcels
+  pub parcel_parts : (0 < (view r.parcels).parts) × ((view r.parcels).parts + (fetchers + writers) ≡ 1024)
+  pub all : r.all.parts + writers ≡ workers
+  pub counts : vec_len r.fetched.counts + fetchers ≤ vec_capacity r.fetched.counts
+  pub tells : FetchedKnows (view r.windows) (view r.parcels) r.fetched × WrittenKnows (view r.parcels) r.all.amount r.written
+  pub halted : IfSome r.fetched.stopped (Allows may_stop) × IfSome r.written.stopped (AllowsOn (MayFill board) may_stop)
   pub back : AreBack board given (r.seats.items ++ held)
-  pub shown : HaveShown board r.ended.all.amount r.ended.written.stopped given (r.seats.items ++ held)
+  pub shown : HaveShown board r.all.amount r.written.stopped given (r.seats.items ++ held)
   pub room : length (r.seats.items ++ held) ≤ vec_capacity r.seats
 
 -- What the caller's thread has, and what it knows, after it has started the workers whose numbers are below `number`, if
@@ -72,9 +73,9 @@ pub record IsStarting {S L : Type 0} (channels : Channels S) (board : Option Boa
   pub few_fetchers : fetchers ≤ number - roles.alone
   pub few_writers : writers ≤ number
   pub seated : AreSeats board number roles.workers r.seats.items
-  pub unread : view r.ended.windows ≡ window_view (view r.ended.windows).parts 1 0 []
-  pub unsettled : r.ended.all.amount ≡ 0
-  pub uncounted : (vec_len r.ended.fetched.counts ≡ 0) × (roles.workers ≤ vec_capacity r.ended.fetched.counts)
+  pub unread : view r.windows ≡ window_view (view r.windows).parts 1 0 []
+  pub unsettled : r.all.amount ≡ 0
+  pub uncounted : (vec_len r.fetched.counts ≡ 0) × (roles.workers ≤ vec_capacity r.fetched.counts)
 
 -- The caller's thread has started the workers below the given number, and may start the next one.
 abbrev pub MayStart : {S L : Type 0} → Channels S → Option Board → (Place → Type 0) → Roles → ℕ → Rest S L → Type 0

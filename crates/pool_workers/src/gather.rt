@@ -19,7 +19,7 @@ use crate::fetcher::Fetcher;
 use crate::gate::Gate;
 use crate::parcels::{ParcelCut, ParcelPass};
 use crate::show::give_back;
-use crate::threads::{Ended, Owned, Rest};
+use crate::threads::Owned;
 use crate::windows::{WindowCut, WindowPass};
 use crate::worker::{Roles, Worker, WorkerHandle};
 use crate::writer::Writer;
@@ -43,6 +43,19 @@ pub struct FetchedAll {
 pub struct WrittenAll {
     pub got: u64,
     pub stopped: Option<Halt>,
+}
+
+/// What the caller's thread owns while workers run. The fields `windows`, `parcels`, `all` and `seats` are the rights and
+/// the seats that no running worker has. The fields `fetched` and `written` have the results of the workers that have
+/// ended.
+#[derive(Drop)]
+pub struct Rest<S: SourceBrand, L: Ledger> {
+    pub windows: WindowPass<S>,
+    pub parcels: ParcelPass<S>,
+    pub all: Share<L>,
+    pub fetched: FetchedAll,
+    pub written: WrittenAll,
+    pub seats: Vec<BoardSeat>,
 }
 
 /// Adds the counts of two groups of workers, unless a worker stopped or the sum overflows.
@@ -180,11 +193,10 @@ impl<F: WriteFilter, S: SourceBrand, T: TargetBrand<F>, L: Ledger, G: Gate, R: W
             all,
             seats,
         } = owned;
-        let ended = Ended {
+        Rest {
             windows,
             parcels,
             all,
-            read: None,
             fetched: FetchedAll {
                 counts,
                 sent: 0,
@@ -194,8 +206,8 @@ impl<F: WriteFilter, S: SourceBrand, T: TargetBrand<F>, L: Ledger, G: Gate, R: W
                 got: 0,
                 stopped: None,
             },
-        };
-        Rest { ended, seats }
+            seats,
+        }
     }
 
     /// Adds the results of a worker that has ended, and takes back the worker's parts and its seat.
@@ -215,33 +227,23 @@ impl<F: WriteFilter, S: SourceBrand, T: TargetBrand<F>, L: Ledger, G: Gate, R: W
     {
         match worker {
             Worker::Fetches(fetcher) => {
-                rest.ended.fetched.take_in(
-                    self.channels,
-                    &mut rest.ended.windows,
-                    &mut rest.ended.parcels,
-                    fetcher,
-                );
+                rest.fetched.take_in(self.channels, &mut rest.windows, &mut rest.parcels, fetcher);
             }
             Worker::Writes(writer) => {
-                rest.ended.written.take_in(
+                rest.written.take_in(
                     self.channels,
-                    &mut rest.ended.parcels,
-                    &mut rest.ended.all,
+                    &mut rest.parcels,
+                    &mut rest.all,
                     &mut rest.seats,
                     writer,
                 );
             }
             Worker::Both(fetcher, writer) => {
-                rest.ended.fetched.take_in(
+                rest.fetched.take_in(self.channels, &mut rest.windows, &mut rest.parcels, fetcher);
+                rest.written.take_in(
                     self.channels,
-                    &mut rest.ended.windows,
-                    &mut rest.ended.parcels,
-                    fetcher,
-                );
-                rest.ended.written.take_in(
-                    self.channels,
-                    &mut rest.ended.parcels,
-                    &mut rest.ended.all,
+                    &mut rest.parcels,
+                    &mut rest.all,
                     &mut rest.seats,
                     writer,
                 );

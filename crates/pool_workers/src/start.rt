@@ -13,8 +13,8 @@ use crate::brands::{SourceBrand, TargetBrand};
 use crate::context::Context;
 use crate::ends::{end_parcels, end_windows};
 use crate::gate::Gate;
+use crate::gather::Rest;
 use crate::parcels::ParcelPass;
-use crate::threads::Rest;
 use crate::windows::WindowPass;
 use crate::worker::{Roles, Worker, WorkerHandle, WorkerPromise};
 use repl_target::WriteFilter;
@@ -125,12 +125,7 @@ impl<
             Err(refused) => {
                 // The workers below `number` run on their threads, and the new worker runs on this thread, so
                 // `number + 1` workers must end.
-                self.end_workers(
-                    roles,
-                    number + 1,
-                    &mut rest.ended.windows,
-                    &mut rest.ended.parcels,
-                );
+                self.end_workers(roles, number + 1, &mut rest.windows, &mut rest.parcels);
                 let worker = (refused.value)();
                 self.take_in(rest, worker);
                 None
@@ -162,7 +157,7 @@ impl<
             (total (λ h. writers_in h.promise.worker.value) result.items)
             (held (λ h. seat_of h.promise.worker.value) result.items) rest.new }
         ensures unread { vec_len result ≡ roles.alone + roles.workers
-            → view rest.new.ended.windows ≡ window_view (view rest.new.ended.windows).parts 1 0 [] }
+            → view rest.new.windows ≡ window_view (view rest.new.windows).parts 1 0 [] }
     {
         let count = roles.alone + roles.workers;
         let mut started = match Vec::with_capacity(self.alloc, count) {

@@ -7,7 +7,7 @@ use crate::brands::{SourceBrand, TargetBrand};
 use crate::context::Context;
 use crate::fault::Halt;
 use crate::gate::Gate;
-use crate::gather::{FetchedAll, WrittenAll};
+use crate::gather::{FetchedAll, Rest, WrittenAll};
 use crate::messages::keep_heaps;
 use crate::parcels::ParcelPass;
 use crate::windows::WindowPass;
@@ -32,9 +32,9 @@ pub struct Owned<S: SourceBrand, L: Ledger> {
     pub seats: Vec<BoardSeat>,
 }
 
-/// What the caller's thread owns while workers run, and after all workers have ended. The fields `windows`, `parcels`
-/// and `all` are the rights that no running worker has. The fields `fetched` and `written` have the results of the
-/// workers that have ended. The field `read` is the reason if reading the windows ended early.
+/// What the caller's thread owns after all workers have ended. The fields `windows`, `parcels` and `all` are the
+/// complete rights to use the channels and to count settled documents. The fields `fetched` and `written` have the
+/// workers' results. The field `read` is the reason if reading the windows ended early.
 #[derive(Drop)]
 pub struct Ended<S: SourceBrand, L: Ledger> {
     pub windows: WindowPass<S>,
@@ -43,14 +43,6 @@ pub struct Ended<S: SourceBrand, L: Ledger> {
     pub read: Option<Halt>,
     pub fetched: FetchedAll,
     pub written: WrittenAll,
-}
-
-/// What the caller's thread owns while workers run: the rights and the results (`ended`), and the seats of the progress
-/// board that no running worker has.
-#[derive(Drop)]
-pub struct Rest<S: SourceBrand, L: Ledger> {
-    pub ended: Ended<S, L>,
-    pub seats: Vec<BoardSeat>,
 }
 
 impl<
@@ -87,23 +79,40 @@ impl<
         let count = roles.alone + roles.workers;
         if started.len() < count {
             self.join_all(started, &mut rest);
-            let Rest { ended: _, seats } = rest;
+            let Rest {
+                windows: _,
+                parcels: _,
+                all: _,
+                fetched: _,
+                written: _,
+                seats,
+            } = rest;
             return (None, seats);
         }
-        rest.ended.read = self.read_windows(start, &mut rest.ended.windows);
-        self.end_workers(
-            roles,
-            count,
-            &mut rest.ended.windows,
-            &mut rest.ended.parcels,
-        );
+        let read = self.read_windows(start, &mut rest.windows);
+        self.end_workers(roles, count, &mut rest.windows, &mut rest.parcels);
         self.join_all(started, &mut rest);
-        let Rest { ended, seats } = rest;
+        let Rest {
+            windows,
+            parcels,
+            all,
+            fetched,
+            written,
+            seats,
+        } = rest;
+        let ended = Ended {
+            windows,
+            parcels,
+            all,
+            read,
+            fetched,
+            written,
+        };
         (Some(ended), seats)
     }
 
-    /// Runs the workers on threads of one scope (`in_scope`). If the gate (a callback) never blocks a worker, each worker fetches
-    /// and writes, so a run needs half as many threads. If such a run has only one worker, the worker runs on the
+    /// Runs the workers on threads of one scope (`in_scope`). If the gate (a callback) never blocks a worker, each worker
+    /// fetches and writes, so a run needs half as many threads. If such a run has only one worker, the worker runs on the
     /// caller's thread (`in_turn`).
     pub fn with_workers(
         &'e self,

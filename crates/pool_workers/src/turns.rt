@@ -1,7 +1,5 @@
-//! Runs the only worker of a run on the thread that reads the windows.
-//!
-//! One fetcher and one writer on two threads would still settle one document at a time, and would move data between the
-//! processors' caches.
+//! Runs the only worker of a run on the thread that reads the windows. A second thread would settle no document
+//! earlier, and would move data between the processors' caches.
 ghost use Rattle.std.specs.Prelude.{◌≡◌, ℕ, ◌<◌, [], true, Option, Some, IfSome, option_copied};
 ghost use Rattle.crossbeam_channel.specs.Claims.{view, IsSeatAt};
 ghost use Rattle.crossbeam_channel.specs.Ends.{sends_on};
@@ -15,7 +13,8 @@ use crate::brands::{SourceBrand, TargetBrand};
 use crate::context::Context;
 use crate::fault::Halt;
 use crate::gate::Gate;
-use crate::threads::{Ended, Owned, Rest};
+use crate::gather::Rest;
+use crate::threads::{Ended, Owned};
 use crate::windows::WindowPass;
 use crate::worker::{Roles, Worker};
 use progress_board::BoardSeat;
@@ -67,13 +66,12 @@ impl<F: WriteFilter, S: SourceBrand, T: TargetBrand<F>, L: Ledger, G: Gate, R: W
                 }
                 Err(halt) => return Some(halt),
             }
-            let _more = self.take_turn(worker);
+            self.take_turn(worker);
         }
         None
     }
 
-    /// Runs the only worker of a run on this thread. Returns the results of the worker, and the seats of the progress
-    /// board.
+    /// Runs the only worker of a run on this thread. Returns the worker's results and the seats of the progress board.
     pub fn in_turn(&self, start: u64, owned: Owned<S, L>) -> (Ended<S, L>, Vec<BoardSeat>)
         requires source { S.source ≡ self.now.source.now.1.db }
         requires plan { S.plan ≡ self.now.plan.now }
@@ -88,9 +86,24 @@ impl<F: WriteFilter, S: SourceBrand, T: TargetBrand<F>, L: Ledger, G: Gate, R: W
         };
         let mut rest = self.before_workers(roles, owned);
         let mut worker = self.new_worker(roles, 0, &mut rest);
-        rest.ended.read = self.read_in_turn(start, &mut rest.ended.windows, &mut worker);
+        let read = self.read_in_turn(start, &mut rest.windows, &mut worker);
         self.take_in(&mut rest, worker);
-        let Rest { ended, seats } = rest;
+        let Rest {
+            windows,
+            parcels,
+            all,
+            fetched,
+            written,
+            seats,
+        } = rest;
+        let ended = Ended {
+            windows,
+            parcels,
+            all,
+            read,
+            fetched,
+            written,
+        };
         (ended, seats)
     }
 }

@@ -9,7 +9,7 @@ use crate::channels::Channels;
 use crate::context::Context;
 use crate::fetcher::Fetcher;
 use crate::gate::Gate;
-use crate::threads::Rest;
+use crate::gather::Rest;
 use crate::writer::Writer;
 use progress_board::Board;
 use repl_target::WriteFilter;
@@ -40,9 +40,8 @@ pub struct Roles {
 }
 
 impl Roles {
-    /// Returns the roles of a run with the given number of fetchers. If the gate (a callback) may block a worker, no worker has both
-    /// roles, so a blocked fetcher does not keep a writer from writing. If the gate never blocks, each worker has both
-    /// roles.
+    /// Returns the roles of a run. If the gate (a callback) may block a worker, no worker has both roles, so a blocked
+    /// fetcher blocks no writer. If the gate never blocks, each worker has both roles.
     pub fn of(workers: usize, may_block: bool) -> Roles
         ensures workers { result.workers ≡ workers }
         ensures alone { result.alone ≤ workers }
@@ -95,14 +94,13 @@ impl<F: WriteFilter, S: SourceBrand, T: TargetBrand<F>, L: Ledger, G: Gate, R: W
         ensures started { HasStarted self.now.channels.now (option_copied self.now.board)
             (G.may_stop self.now.gate.now) roles number rest.old rest.new result }
     {
-        let ended = &mut rest.ended;
         if number < roles.alone {
-            let writer = self.writer_here(&mut ended.parcels, &mut ended.all, &mut rest.seats);
+            let writer = self.writer_here(&mut rest.parcels, &mut rest.all, &mut rest.seats);
             return Worker::Writes(writer);
         }
-        let fetcher = self.fetcher_here(&mut ended.windows, &mut ended.parcels);
+        let fetcher = self.fetcher_here(&mut rest.windows, &mut rest.parcels);
         if number < roles.workers {
-            let writer = self.writer_here(&mut ended.parcels, &mut ended.all, &mut rest.seats);
+            let writer = self.writer_here(&mut rest.parcels, &mut rest.all, &mut rest.seats);
             return Worker::Both(fetcher, writer);
         }
         Worker::Fetches(fetcher)

@@ -1,4 +1,4 @@
-use Rattle.proof_prelude.proofs.{◌≡◌, ℕ, ap, length, option_copied, vec_len, arith}
+use Rattle.proof_prelude.proofs.{ℕ, ap, length, option_copied, arith}
 use Rattle.pool_workers.proofs.{starts_empty}
 use Rattle.pool_workers.proofs.context.Context.before_workers.Goals as goal
 

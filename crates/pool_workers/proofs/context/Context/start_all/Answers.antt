@@ -1,5 +1,5 @@
-use Rattle.proof_prelude.proofs.{rules, refl, sym, subst, ◌≡◌, ◌+◌, option_copied, arith}
-use Rattle.pool_workers.specs.{total, held, fetchers_in, writers_in, seat_of, HasRest, IsStarting}
+use Rattle.proof_prelude.proofs.{rules, ◌≡◌, ◌+◌, option_copied}
+use Rattle.pool_workers.specs.{IsStarting}
 use Rattle.pool_workers.proofs.{all_pushed, starts_last}
 use Rattle.pool_workers.proofs.context.Context.start_all.Goals as goal
 

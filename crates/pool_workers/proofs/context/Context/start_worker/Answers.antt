@@ -1,4 +1,4 @@
-use Rattle.proof_prelude.proofs.{◌≡◌, ◌∙◌, ap, sym, subst, option_copied}
+use Rattle.proof_prelude.proofs.{◌∙◌, ap, sym, subst, option_copied}
 use Rattle.pool_workers.specs.{Worker, WorkerPromise, Keeps, HasStarted, seat_of}
 use Rattle.pool_workers.proofs.{keeps_roles, tells_ends}
 use Rattle.pool_workers.proofs.context.Context.start_worker.Goals as goal
@@ -15,7 +15,7 @@ pub take_in-requires-clause-rest : goal.take_in-requires-clause-rest
 take_in-requires-clause-rest g c =
     let q = c.requires.starting in
     let r = c.new_worker-worker.new.rest in
-    let t = record r { ended = record r.ended { windows = c.end_workers.new.windows; parcels = c.end_workers.new.parcels } } in
+    let t = record r { windows = c.end_workers.new.windows; parcels = c.end_workers.new.parcels } in
     let k : Keeps c.args.self.now.channels.now (option_copied c.args.self.now.board) (g.G.Gate.may_stop c.args.self.now.gate.now) c.new_worker-worker.result c.work-worker.result = rw c.in-Err.ensures.err at c.work-worker.ensures in
     let s = c.new_worker-worker.ensures.started q.0 q.1 q.2 q.3 q.4 in
     (c.args.roles.workers, q.0, q.1, q.2, q.3, seat_of c.new_worker-worker.result, k.shows, keeps_roles q.2 q.3 k (tells_ends t s.rest c.end_workers.ensures.windows c.end_workers.ensures.parcels))
@@ -29,7 +29,7 @@ returns-in-Ok-clause-started g c =
 pub returns-in-Err-clause-returned : goal.returns-in-Err-clause-returned
 returns-in-Err-clause-returned g c _ given held fetchers writers h =
     let r = c.new_worker-worker.new.rest in
-    let t = record r { ended = record r.ended { windows = c.end_workers.new.windows; parcels = c.end_workers.new.parcels } } in
+    let t = record r { windows = c.end_workers.new.windows; parcels = c.end_workers.new.parcels } in
     let k : Keeps c.args.self.now.channels.now (option_copied c.args.self.now.board) (g.G.Gate.may_stop c.args.self.now.gate.now) c.new_worker-worker.result c.work-worker.result = rw c.in-Err.ensures.err at c.work-worker.ensures in
     let s = c.new_worker-worker.ensures.started given held fetchers writers h in
     c.take_in.ensures c.args.roles.workers given held fetchers writers (seat_of c.new_worker-worker.result) k.shows (keeps_roles fetchers writers k (tells_ends t s.rest c.end_workers.ensures.windows c.end_workers.ensures.parcels))
