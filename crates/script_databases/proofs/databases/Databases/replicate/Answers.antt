@@ -6,7 +6,7 @@ use Rattle.script_databases.proofs.databases.Databases.replicate.Goals as goal
 
 pub take_out-sender-requires-clause-two : goal.take_out-sender-requires-clause-two
 take_out-sender-requires-clause-two g c =
-    names_apart (entry_at c.self.inside.by_name.entries) (λ x. x.1.db.uuid) c.args.source.now c.args.target.now _ _ c.find_both.ensures.source c.find_both.ensures.target (run_apart _ _ c.args.plan.now (sym c.in_ok-check_run.ensures))
+    names_apart (entry_at c.self.inside.by_name.entries) (λ x. x.1.db.uuid) c.args.source.now c.args.target.now _ _ c.find_both.ensures.source c.find_both.ensures.target (run_apart c.find_both.result.0.now.1 c.find_both.result.1.now.1 c.args.plan.now (sym c.in_ok-check_run.ensures))
 
 pub returns-in_err-check_run : goal.returns-in_err-check_run
 returns-in_err-check_run g c =
@@ -24,7 +24,7 @@ invariant_of-self g c =
     let es = c.self.inside.by_name.entries in
     let out = c.take_out-sender in
     let left = out.ensures.left in
-    stored_both g es out.new.names.entries c.put_in.new.names.entries c.args.source.now c.args.target.now left.0 left.1 out.result.0 out.result.1 c.run-sender.result.source c.run-sender.result.target left.2 c.put_in.ensures out.ensures.source out.ensures.target c.self.inside.uuids.keys (names_apart (entry_at es) (λ x. x.1.db.uuid) c.args.source.now c.args.target.now _ _ c.find_both.ensures.source c.find_both.ensures.target (run_apart _ _ c.args.plan.now (sym c.in_ok-check_run.ensures))) c.run-sender.ensures.runs.filter c.run-sender.ensures.runs.grown.0
+    stored_both g es out.new.names.entries c.put_in.new.names.entries c.args.source.now c.args.target.now left.0 left.1 out.result.0 out.result.1 c.run-sender.result.source c.run-sender.result.target left.2 c.put_in.ensures out.ensures.source out.ensures.target c.self.inside.uuids.keys (names_apart (entry_at es) (λ x. x.1.db.uuid) c.args.source.now c.args.target.now _ _ c.find_both.ensures.source c.find_both.ensures.target (run_apart c.find_both.result.0.now.1 c.find_both.result.1.now.1 c.args.plan.now (sym c.in_ok-check_run.ensures))) c.run-sender.ensures.runs.filter c.run-sender.ensures.runs.grown.0
     c.law.ensures.peer c.law.ensures.database c.law-2.ensures.peer c.law-2.ensures.database _ c.args.plan.now (run_leaves _ _ _ _ _ _ _ _ _ _ c.run-sender.ensures.runs) (c.run-sender.ensures.runs.later) c.self.invariant
 
 pub returns : goal.returns
