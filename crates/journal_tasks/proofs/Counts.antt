@@ -1,5 +1,5 @@
 -- The count of lines, after one line more and at the end of the input.
-use Rattle.proof_prelude.proofs.{◌≡◌, ℕ, suc, ◌+◌, Bool, true, false, if◌then◌else◌, nat_eq, List, [], ◌∷◌, ◌++◌, length, Option, None, Some, option_map, option_or, refl, sym, ap, ◌∙◌, arith, add-one, length-append}
+use Rattle.proof_prelude.proofs.{◌≡◌, ℕ, suc, ◌+◌, Bool, true, false, if◌then◌else◌, nat_eq, not, List, [], ◌∷◌, ◌++◌, length, Option, None, Some, option_map, option_or, refl, sym, ap, ◌∙◌, arith, add-one, length-append}
 use Rattle.journal_core.specs.{first_index}
 use Rattle.journal_core.proofs.{first_index-push}
 use Rattle.journal_tasks.specs.{IsCounting, counted_as, failed, failed_end, wrong_line}
@@ -44,3 +44,7 @@ count_end test lines rest old wrong c w =
 -- no line was read
 pub count_none : {A : Type 0} (test : A → Bool) (count : Count) → count ≡ record { lines = 0; wrong = None } → IsCounting test [] count
 count_none test count e = record { lines_is = ap (λ (z : Count). z.lines) e; wrong_is = ap (λ (z : Count). z.wrong) e }
+
+pub not_not : (b : Bool) → not (not b) ≡ b
+not_not true = refl
+not_not false = refl

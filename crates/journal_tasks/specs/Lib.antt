@@ -1,6 +1,8 @@
 pub mod Arguments
 pub mod Asking
 pub mod Counting
+pub mod Diffing
+pub mod Documents
 pub mod Halves
 pub mod Lists
 pub mod Receiving
@@ -8,6 +10,8 @@ pub mod Selecting
 pub use Arguments.{EndsFor, StepsFor}
 pub use Asking.{HasAsked, IsAsking, ask_body, asked_items, asked_leaf, has_begun}
 pub use Counting.{IsCounting, counted_as, failed, failed_end, wrong_line}
+pub use Diffing.{HasDiffed, IsDiffing, diff_body, diff_member, diff_text}
+pub use Documents.{add_leaves, distinct, docs_of, has_leaf, has_rev, ids_of, revs_at, revs_of}
 pub use Halves.{first_part, has_second_part, is_empty_line, second_part}
 pub use Lists.{is_wrong, is_wrong_entry, leaves_in, listed}
 pub use Receiving.{DocView, HasReceived, IsReceiving, WantedView, answered_by, doc_at, doc_of, doc_or_new, doc_view, head_of, heads_in, is_answer, is_empty, is_marked, is_received, is_requested, is_stored, is_unnamed, lacks_any, lacks_by, leaf_at, missing_in, named, passed_line, passed_on, received_by, received_leaves, received_text, requested_by, requested_in, told, told_by, told_in, told_of, unmarked, wanted_at, wanted_revs, wanted_view, with_leaf, with_wanted, wrong_flags, wrong_received}

@@ -52,8 +52,9 @@ impl Compare {
     }
 
     /// Adds a document without leaves to the first list of leaves in the task's input.
-    fn add_doc(&mut self, id: String) -> Result<(), AllocError> {
-        if !self.docs.contains_key(id.as_str()) {
+    fn add_doc(&mut self, id: &str) -> Result<(), AllocError> {
+        if !self.docs.contains_key(id) {
+            let id = String::from_str(self.alloc, id)?;
             self.docs.insert(id, IndexSet::new(self.alloc))?;
         }
         Ok(())
@@ -87,11 +88,11 @@ impl Compare {
 
     /// Reads a line of the first list of leaves in the task's input.
     fn first_line(&mut self, line: &[u8]) -> Result<(), AllocError> {
-        if !add_entry(self.alloc, &mut self.scratch, &mut self.docs, line)? {
-            self.count.fail();
-        }
-        match entry_of(self.alloc, &mut self.scratch, line)? {
-            Entry::State(leaves) | Entry::Lacks(leaves) => self.add_doc(leaves.id),
+        let entry = entry_of(self.alloc, &mut self.scratch, line)?;
+        let right = add_entry(self.alloc, &mut self.docs, &entry)?;
+        self.count.check(right);
+        match &entry {
+            Entry::State(leaves) | Entry::Lacks(leaves) => self.add_doc(leaves.id.as_str()),
             _ => Ok(()),
         }
     }

@@ -4,7 +4,7 @@ ghost use Rattle.std.specs.Prelude.{⊤};
 use crate::count::Count;
 use crate::diff::add_entry;
 use indexmap::{IndexMap, IndexSet};
-use journal_lines::{Docs, add_pair, push_leaves};
+use journal_lines::{Docs, add_pair, entry_of, push_leaves};
 use json::{Error, Scratch, Value};
 use line_reader::LineTask;
 use std::alloc::{AllocError, Global};
@@ -165,8 +165,10 @@ impl LineTask for Lacking {
             self.response.push(b'\n')?;
         } else if line.is_empty() {
             self.in_response = true;
-        } else if !add_entry(self.alloc, &mut self.scratch, &mut self.docs, line)? {
-            self.count.fail();
+        } else {
+            let entry = entry_of(self.alloc, &mut self.scratch, line)?;
+            let right = add_entry(self.alloc, &mut self.docs, &entry)?;
+            self.count.check(right);
         }
         Ok(())
     }

@@ -19,7 +19,7 @@ pub use ask::{Ask, ask_leaves};
 pub use compare::Compare;
 pub use confirm::{Confirm, confirm_journal};
 pub use conflicts::Conflicts;
-pub use diff::Diff;
+pub use diff::{Diff, diff_leaves};
 pub use lacking::Lacking;
 pub use name::Name;
 pub use parts::Parts;
