@@ -4,11 +4,15 @@ pub mod Counts
 pub mod Diffed
 pub mod Documents
 pub mod Halves
+pub mod Lacked
+pub mod Lookups
 pub mod Receiving
 pub mod Requested
 pub use Arguments.{done_for, stopped_for}
 pub use Asked.{ask_end, ask_line, asked_items-append, has_begun-append, leaves_in-push}
 pub use Counts.{count_end, count_line, count_none}
 pub use Diffed.{diff_end, diff_line}
+pub use Lacked.{lacking_absent, lacking_first, lacking_response, lacking_right, lacking_separator, lacking_wrong}
+pub use Lookups.{doc_added, doc_kept, doc_written, missing_found, missing_none, missing_refused, missing_some, rev_absent, rev_found, revs_found}
 pub use Receiving.{break_step, received_right, received_wrong, request_step, response_step}
 pub use Requested.{doc_put, texts_added}

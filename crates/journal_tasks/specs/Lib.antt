@@ -5,6 +5,7 @@ pub mod Diffing
 pub mod Documents
 pub mod Halves
 pub mod Lists
+pub mod Missing
 pub mod Receiving
 pub mod Selecting
 pub use Arguments.{EndsFor, StepsFor}
@@ -12,6 +13,7 @@ pub use Asking.{HasAsked, IsAsking, ask_body, asked_items, asked_leaf, has_begun
 pub use Counting.{IsCounting, counted_as, failed, failed_end, wrong_line}
 pub use Diffing.{HasDiffed, IsDiffing, diff_body, diff_member, diff_text}
 pub use Documents.{add_leaves, distinct, docs_of, has_leaf, has_rev, ids_of, revs_at, revs_of}
-pub use Halves.{first_part, has_second_part, is_empty_line, second_part}
+pub use Halves.{first_part, has_second_part, is_empty_line, part_flags, second_part}
 pub use Lists.{is_wrong, is_wrong_entry, leaves_in, listed}
+pub use Missing.{HasLacked, IsLacking, are_about, diffed_docs, diffed_flags, is_about, missing_among, missing_at, missing_by, missing_in_input, missing_leaves, missing_line, missing_lines, missing_text, wrong_diffed}
 pub use Receiving.{DocView, HasReceived, IsReceiving, WantedView, answered_by, doc_at, doc_of, doc_or_new, doc_view, head_of, heads_in, is_answer, is_empty, is_marked, is_received, is_requested, is_stored, is_unnamed, lacks_any, lacks_by, leaf_at, missing_in, named, passed_line, passed_on, received_by, received_leaves, received_text, requested_by, requested_in, told, told_by, told_in, told_of, unmarked, wanted_at, wanted_revs, wanted_view, with_leaf, with_wanted, wrong_flags, wrong_received}

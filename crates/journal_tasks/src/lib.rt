@@ -14,13 +14,14 @@ mod parts;
 mod received;
 mod select;
 mod states;
+mod stored;
 
 pub use ask::{Ask, ask_leaves};
 pub use compare::Compare;
 pub use confirm::{Confirm, confirm_journal};
 pub use conflicts::Conflicts;
 pub use diff::{Diff, diff_leaves};
-pub use lacking::Lacking;
+pub use lacking::{Lacking, lacking_leaves};
 pub use name::Name;
 pub use parts::Parts;
 pub use received::{Received, receive_leaves};
