@@ -1,5 +1,6 @@
 pub mod Arguments
 pub mod Asked
+pub mod Compared
 pub mod Counts
 pub mod Diffed
 pub mod Documents
@@ -10,6 +11,7 @@ pub mod Receiving
 pub mod Requested
 pub use Arguments.{done_for, stopped_for}
 pub use Asked.{ask_end, ask_line, asked_items-append, has_begun-append, leaves_in-push}
+pub use Compared.{compare_early, compare_end, compare_first, compare_second, compare_separator, ids_named, ids_pair, leaves_named, leaves_pair}
 pub use Counts.{count_end, count_line, count_none}
 pub use Diffed.{diff_end, diff_line}
 pub use Lacked.{lacking_absent, lacking_first, lacking_response, lacking_right, lacking_separator, lacking_wrong}

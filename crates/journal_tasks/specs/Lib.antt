@@ -1,5 +1,6 @@
 pub mod Arguments
 pub mod Asking
+pub mod Comparing
 pub mod Counting
 pub mod Diffing
 pub mod Documents
@@ -10,6 +11,7 @@ pub mod Receiving
 pub mod Selecting
 pub use Arguments.{EndsFor, StepsFor}
 pub use Asking.{HasAsked, IsAsking, ask_body, asked_items, asked_leaf, has_begun}
+pub use Comparing.{HasCompared, IsComparing, compared, compared_by, compared_line, compared_text, ids_in, list_flags, named_leaves, names_id, wrong_compared}
 pub use Counting.{IsCounting, counted_as, failed, failed_end, wrong_line}
 pub use Diffing.{HasDiffed, IsDiffing, diff_body, diff_member, diff_text}
 pub use Documents.{add_leaves, distinct, docs_of, has_leaf, has_rev, ids_of, revs_at, revs_of}

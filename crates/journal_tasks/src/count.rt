@@ -1,5 +1,6 @@
 //! Counts the lines that a task has read.
-ghost use Rattle.std.specs.Prelude.{◌≡◌, ◌+◌, OnOk, None, is_none, not};
+ghost use Rattle.std.specs.Prelude.{◌≡◌, ◌+◌, OnOk, None, Some, is_none, not};
+ghost use Rattle.std.specs.Option.{option_or};
 ghost use Rattle.journal_tasks.specs.Counting.{counted_as, failed, failed_end};
 
 use journal_core::added;
@@ -67,6 +68,23 @@ impl Count {
             return Ok(());
         }
         self.add()?;
+        self.fail();
+        Ok(())
+    }
+
+    /// Records that the input ends before its second part. The wrong line is the bytes after the last line end or, if
+    /// there are no such bytes, the last counted line.
+    ///
+    /// # Errors
+    ///
+    /// Returns an error if there are bytes after the last line end, and the count is at its maximum.
+    pub(crate) fn end_early(&mut self, rest: &[u8]) -> Result<(), AllocError>
+        ensures { OnOk result (self.new.wrong
+            ≡ option_or (failed_end self.old.wrong self.old.lines rest.now) (Some self.old.lines)) }
+    {
+        if !rest.is_empty() {
+            self.add()?;
+        }
         self.fail();
         Ok(())
     }

@@ -17,7 +17,7 @@ mod states;
 mod stored;
 
 pub use ask::{Ask, ask_leaves};
-pub use compare::Compare;
+pub use compare::{Compare, compare_lists};
 pub use confirm::{Confirm, confirm_journal};
 pub use conflicts::Conflicts;
 pub use diff::{Diff, diff_leaves};
