@@ -9,6 +9,7 @@ pub mod Lacked
 pub mod Lookups
 pub mod Receiving
 pub mod Requested
+pub mod Splits
 pub use Arguments.{done_for, stopped_for}
 pub use Asked.{ask_end, ask_line, asked_items-append, has_begun-append, leaves_in-push}
 pub use Compared.{compare_early, compare_end, compare_first, compare_second, compare_separator, ids_named, ids_pair, leaves_named, leaves_pair}
@@ -18,3 +19,4 @@ pub use Lacked.{lacking_absent, lacking_first, lacking_response, lacking_right, 
 pub use Lookups.{doc_added, doc_kept, doc_written, missing_found, missing_none, missing_refused, missing_some, rev_absent, rev_found, revs_found}
 pub use Receiving.{break_step, received_right, received_wrong, request_step, response_step}
 pub use Requested.{doc_put, texts_added}
+pub use Splits.{on_all, split_end, split_next, split_same}

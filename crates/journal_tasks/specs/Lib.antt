@@ -9,6 +9,7 @@ pub mod Lists
 pub mod Missing
 pub mod Receiving
 pub mod Selecting
+pub mod Splitting
 pub use Arguments.{EndsFor, StepsFor}
 pub use Asking.{HasAsked, IsAsking, ask_body, asked_items, asked_leaf, has_begun}
 pub use Comparing.{HasCompared, IsComparing, compared, compared_by, compared_line, compared_text, ids_in, list_flags, named_leaves, names_id, wrong_compared}
@@ -19,3 +20,4 @@ pub use Halves.{first_part, has_second_part, is_empty_line, part_flags, second_p
 pub use Lists.{is_wrong, is_wrong_entry, leaves_in, listed}
 pub use Missing.{HasLacked, IsLacking, are_about, diffed_docs, diffed_flags, is_about, missing_among, missing_at, missing_by, missing_in_input, missing_leaves, missing_line, missing_lines, missing_text, wrong_diffed}
 pub use Receiving.{DocView, HasReceived, IsReceiving, WantedView, answered_by, doc_at, doc_of, doc_or_new, doc_view, head_of, heads_in, is_answer, is_empty, is_marked, is_received, is_requested, is_stored, is_unnamed, lacks_any, lacks_by, leaf_at, missing_in, named, passed_line, passed_on, received_by, received_leaves, received_text, requested_by, requested_in, told, told_by, told_in, told_of, unmarked, wanted_at, wanted_revs, wanted_view, with_leaf, with_wanted, wrong_flags, wrong_received}
+pub use Splitting.{HasSplit, IsSplitting, complete_text, fits, has_space, last_text, part_text, parts_text, printed_part, split, unended_line, with_line}

@@ -23,7 +23,7 @@ pub use conflicts::Conflicts;
 pub use diff::{Diff, diff_leaves};
 pub use lacking::{Lacking, lacking_leaves};
 pub use name::Name;
-pub use parts::Parts;
+pub use parts::{Parts, split_lines};
 pub use received::{Received, receive_leaves};
 pub use select::{Filter, Select};
 pub use states::States;

@@ -1,0 +1,9 @@
+use Rattle.journal_tasks.specs.Splitting.{HasSplit, IsSplitting}
+use Rattle.journal_tasks.proofs.{done_for, stopped_for}
+use Rattle.journal_tasks.proofs.parts.split_lines.Goals as goal
+
+pub returns-clause-took : goal.returns-clause-took
+returns-clause-took g c = done_for IsSplitting HasSplit (c.args.most_bytes, c.args.most_lines) c.new-task.result c.run_task.new.task _ _ _ _ c.in-Ok.ensures.took c.new-task.ensures
+
+pub returns-in-Err-clause-stopped : goal.returns-in-Err-clause-stopped
+returns-in-Err-clause-stopped g c = stopped_for IsSplitting HasSplit (c.args.most_bytes, c.args.most_lines) c.new-task.result _ _ _ _ _ c.in-Err.ensures.stopped c.new-task.ensures
