@@ -1,5 +1,5 @@
 -- This file defines the effect of running the program `couch_journal` with any reader and any writer.
-use Rattle.std.specs.Prelude.{◌≡◌, ◌⊎◌, ◌++◌, [], ℕ, List, suc, Bool, true, false, All, Option, option_map, None, Some, Result, Ok, Err}
+use Rattle.std.specs.Prelude.{◌≡◌, ◌⊎◌, ◌++◌, [], ℕ, List, suc, Bool, true, false, All, Option, is_none, option_map, None, Some, Result, Ok, Err}
 use Rattle.json.specs.Json.{Json, Items}
 use Rattle.json.specs.Find.{as_array}
 use Rattle.script_engine.specs.declared.fault.ScriptFault.{ScriptFault}
@@ -9,9 +9,13 @@ use Rattle.journal_core.specs.Journal.{is_sum}
 use Rattle.journal_core.specs.Sealing.{IsSeal, IsSealedPart}
 use Rattle.journal_core.specs.Wrong.{wrong_at}
 use Rattle.journal_tasks.specs.Asking.{ask_body, asked_items}
+use Rattle.journal_tasks.specs.Comparing.{compared_text, wrong_compared}
 use Rattle.journal_tasks.specs.Counting.{wrong_line}
+use Rattle.journal_tasks.specs.Diffing.{diff_text}
 use Rattle.journal_tasks.specs.Lists.{is_wrong, leaves_in}
+use Rattle.journal_tasks.specs.Missing.{missing_in_input, missing_text, wrong_diffed}
 use Rattle.journal_tasks.specs.Receiving.{lacks_any, passed_on, received_text, wrong_received}
+use Rattle.journal_tasks.specs.Splitting.{complete_text, parts_text, unended_line}
 use Rattle.journal_responses.specs.Infos.{info_text, is_info}
 use Rattle.journal_responses.specs.Pages.{page_in}
 use Rattle.journal_responses.specs.Refusals.{any_refused, refused_text}
@@ -27,7 +31,7 @@ use Rattle.couch_journal.specs.declared.run.Response.TheVariants.{Page, Refused,
 use Rattle.couch_journal.specs.declared.tasks.Task.{Task}
 use Rattle.couch_journal.specs.declared.tasks.Task.TheVariants as tasks
 use Rattle.couch_journal.specs.Options.{Refuses, Says}
-use Rattle.couch_journal.specs.Status.{missing_or_done, unflushed, wrong_or}
+use Rattle.couch_journal.specs.Status.{missing_or_done, other_or_done, unflushed, wrong_or}
 use Rattle.couch_journal.specs.Tasks.{IsTaskOf, IsTaskless}
 use Rattle.couch_journal.specs.declared.options.NoTask.{NoTask}
 use Rattle.couch_journal.specs.declared.options.NoTask.TheVariants.{Words, Unknown, Memory}
@@ -125,6 +129,33 @@ RunsReceived only ended input text result =
     RunsLines (passed_on only) (received_text only)
     (λ lines rest. wrong_or (wrong_received lines rest) (missing_or_done (lacks_any lines))) ended input text result
 
+-- The effect of running the task `diff`: its output is the `_revs_diff` request for the documents that the input lists,
+-- or empty if a line of the input is wrong.
+abbrev pub RunsDiff : Type 0 → List ℕ → List ℕ → Result Outcome ScriptFault → Type 0
+RunsDiff ended input text result =
+    RunsLines (λ lines. []) diff_text (λ lines rest. wrong_or (wrong_line is_wrong lines rest) outcomes.Done) ended input text result
+
+-- The effect of running the task `lacking`. The output has a line for each document of the input's list that has
+-- missing leaves according to the response in the input. If no line of the list is wrong, the outcome says whether the
+-- response has a wrong form or is absent.
+abbrev pub RunsLacking : Type 0 → List ℕ → List ℕ → Result Outcome ScriptFault → Type 0
+RunsLacking ended input text result =
+    RunsLines (λ lines. []) missing_text
+    (λ lines rest. wrong_or (wrong_diffed lines rest) (other_or_done (is_none (missing_in_input lines rest)))) ended input text result
+
+-- The effect of running the task `compare`: its output is the leaves that only the second list of the input has. If
+-- `documents` is true, its output is the documents that only the second list names.
+abbrev pub RunsCompare : Bool → Type 0 → List ℕ → List ℕ → Result Outcome ScriptFault → Type 0
+RunsCompare documents ended input text result =
+    RunsLines (compared_text documents) (λ lines rest. compared_text documents lines)
+    (λ lines rest. wrong_or (wrong_compared lines rest) outcomes.Done) ended input text result
+
+-- The effect of running the task `parts`: its output is the parts into which the input's lines are split. The argument
+-- `limit` is a part's maximum number of bytes, with its maximum number of lines.
+abbrev pub RunsParts : ℕ × ℕ → Type 0 → List ℕ → List ℕ → Result Outcome ScriptFault → Type 0
+RunsParts limit ended input text result =
+    RunsLines (complete_text limit) (parts_text limit) (λ lines rest. wrong_or (unended_line lines rest) outcomes.Done) ended input text result
+
 -- ---- the tasks
 
 -- How the output and the result of a task depend on the task's input. For the tasks that the definition does not name,
@@ -136,6 +167,10 @@ RunsTask tasks.Info o ended input text result = RunsResponse Info ended input te
 RunsTask (tasks.Seal chain seq) o ended input text result = RunsSeal chain.now seq.now ended input text result
 RunsTask tasks.Ask o ended input text result = RunsAsk ended input text result
 RunsTask (tasks.Received only) o ended input text result = RunsReceived only ended input text result
+RunsTask tasks.Diff o ended input text result = RunsDiff ended input text result
+RunsTask tasks.Lacking o ended input text result = RunsLacking ended input text result
+RunsTask (tasks.Compare documents) o ended input text result = RunsCompare documents ended input text result
+RunsTask (tasks.Parts bytes lines) o ended input text result = RunsParts (bytes, lines) ended input text result
 RunsTask other o ended input text result = Unit {0}
 
 -- ---- the program

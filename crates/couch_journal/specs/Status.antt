@@ -4,10 +4,11 @@ use Rattle.clap.specs.Words.{kind_of}
 use Rattle.cli_common.specs.Status.{kind_status}
 use Rattle.script_engine.specs.declared.fault.ScriptFault.{ScriptFault}
 use Rattle.script_engine.specs.declared.fault.ScriptFault.TheVariants as faults
+use Rattle.journal_responses.specs.declared.said.Said.TheVariants.{Other}
 use Rattle.couch_journal.specs.declared.options.NoTask.{NoTask}
 use Rattle.couch_journal.specs.declared.options.NoTask.TheVariants.{Words, Unknown, Memory}
 use Rattle.couch_journal.specs.declared.ended.Outcome.{Outcome}
-use Rattle.couch_journal.specs.declared.ended.Outcome.TheVariants.{Done, Missing, Wrong}
+use Rattle.couch_journal.specs.declared.ended.Outcome.TheVariants.{Done, Missing, Said, Wrong}
 use Rattle.couch_journal.specs.declared.ended.Ended.{Ended}
 use Rattle.couch_journal.specs.declared.ended.Ended.TheVariants.{NotRun, Ran}
 
@@ -20,6 +21,12 @@ wrong_or None otherwise = otherwise
 abbrev pub missing_or_done : Bool → Outcome
 missing_or_done true = Missing
 missing_or_done false = Done
+
+-- The outcome of a task: `Said` with the error `Other` if the response does not have the form that the task reads, and
+-- otherwise `Done`.
+abbrev pub other_or_done : Bool → Outcome
+other_or_done true = Said Other
+other_or_done false = Done
 
 -- The exit status after a task: 0 if the task succeeded, 1 if something is missing, otherwise 3.
 abbrev pub status_of : Result Outcome ScriptFault → ℕ

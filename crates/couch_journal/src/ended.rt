@@ -1,6 +1,6 @@
 //! The outcome of a run of the program.
 ghost use Rattle.std.specs.Prelude.{◌≡◌};
-ghost use Rattle.couch_journal.specs.Status.{missing_or_done, wrong_or};
+ghost use Rattle.couch_journal.specs.Status.{missing_or_done, other_or_done, wrong_or};
 
 use crate::options::NoTask;
 use journal_responses::Said;
@@ -50,6 +50,17 @@ pub(crate) fn missing_or_done(missing: bool) -> Outcome
 {
     if missing {
         Outcome::Missing
+    } else {
+        Outcome::Done
+    }
+}
+
+/// Returns the outcome `Said(Other)` if the response does not have the form that the task reads, otherwise `Done`.
+pub(crate) fn other_or_done(other: bool) -> Outcome
+    ensures { result ≡ other_or_done other }
+{
+    if other {
+        Outcome::Said(Said::Other)
     } else {
         Outcome::Done
     }

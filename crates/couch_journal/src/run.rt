@@ -5,16 +5,16 @@ ghost use Rattle.json.specs.Value.{value_view};
 ghost use Rattle.script_engine.specs.Device.{FailsOnce};
 ghost use Rattle.journal_responses.specs.Responses.{IsOther, IsSaid};
 ghost use Rattle.couch_journal.specs.Status.{missing_or_done};
-ghost use Rattle.couch_journal.specs.Runs.{IsNotShown, IsShown, RunsAsk, RunsReceived, RunsResponse, RunsSeal, RunsTask, RunsWords, Shows, ShowsNothing};
+ghost use Rattle.couch_journal.specs.Runs.{IsNotShown, IsShown, RunsAsk, RunsCompare, RunsDiff, RunsLacking, RunsParts, RunsReceived, RunsResponse, RunsSeal, RunsTask, RunsWords, Shows, ShowsNothing};
 
-use crate::ended::{Ended, Outcome, missing_or_done, wrong_or};
+use crate::ended::{Ended, Outcome, missing_or_done, other_or_done, wrong_or};
 use crate::options::{NoTask, Options, matches_of, options_of};
 use crate::tasks::{Task, task_of};
 use journal_core::seal_block;
 use journal_responses::{Said, info_of, page_of, read_said, refused_of};
 use journal_tasks::{
-    Compare, Conflicts, Diff, Filter, Lacking, Name, Parts, Select, States, ask_leaves,
-    confirm_journal, receive_leaves,
+    Conflicts, Filter, Name, Select, States, ask_leaves, compare_lists, confirm_journal, diff_leaves,
+    lacking_leaves, receive_leaves, split_lines,
 };
 use json::{Scratch, Value};
 use line_reader::{LineTask, read_all, run_task};
@@ -319,16 +319,13 @@ fn run_lacking<R: ScriptRead, W: ScriptWrite>(
     writer: &mut W,
 ) -> Result<Outcome, ScriptFault>
     ensures { (input text : List ℕ) × Appends (R.taken reader.old) (R.taken reader.new) input
-        × Appends (W.held writer.old) (W.held writer.new) text }
+        × Appends (W.held writer.old) (W.held writer.new) text
+        × RunsLacking (R.ended reader.new) input text result }
 {
-    let mut task = Lacking::new(alloc);
-    run_lines(alloc, &mut task, reader, writer)?;
-    let ended = if task.is_refused() {
-        Outcome::Said(Said::Other)
-    } else {
-        Outcome::Done
-    };
-    Ok(wrong_or(task.wrong(), ended))
+    match lacking_leaves(alloc, reader, writer) {
+        Ok(task) => Ok(wrong_or(task.wrong(), other_or_done(task.is_refused()))),
+        Err(fault) => Err(fault),
+    }
 }
 
 /// Prints a `_revs_diff` request for the leaves of a list.
@@ -338,11 +335,13 @@ fn run_diff<R: ScriptRead, W: ScriptWrite>(
     writer: &mut W,
 ) -> Result<Outcome, ScriptFault>
     ensures { (input text : List ℕ) × Appends (R.taken reader.old) (R.taken reader.new) input
-        × Appends (W.held writer.old) (W.held writer.new) text }
+        × Appends (W.held writer.old) (W.held writer.new) text
+        × RunsDiff (R.ended reader.new) input text result }
 {
-    let mut task = Diff::new(alloc);
-    run_lines(alloc, &mut task, reader, writer)?;
-    Ok(wrong_or(task.wrong(), Outcome::Done))
+    match diff_leaves(alloc, reader, writer) {
+        Ok(task) => Ok(wrong_or(task.wrong(), Outcome::Done)),
+        Err(fault) => Err(fault),
+    }
 }
 
 /// Splits the input's lines into parts.
@@ -354,11 +353,13 @@ fn run_parts<R: ScriptRead, W: ScriptWrite>(
     writer: &mut W,
 ) -> Result<Outcome, ScriptFault>
     ensures { (input text : List ℕ) × Appends (R.taken reader.old) (R.taken reader.new) input
-        × Appends (W.held writer.old) (W.held writer.new) text }
+        × Appends (W.held writer.old) (W.held writer.new) text
+        × RunsParts (bytes, lines) (R.ended reader.new) input text result }
 {
-    let mut task = Parts::new(alloc, bytes, lines);
-    run_lines(alloc, &mut task, reader, writer)?;
-    Ok(wrong_or(task.wrong(), Outcome::Done))
+    match split_lines(alloc, bytes, lines, reader, writer) {
+        Ok(task) => Ok(wrong_or(task.wrong(), Outcome::Done)),
+        Err(fault) => Err(fault),
+    }
 }
 
 /// Prints a line for each leaf of a list.
@@ -385,11 +386,13 @@ fn run_compare<R: ScriptRead, W: ScriptWrite>(
     writer: &mut W,
 ) -> Result<Outcome, ScriptFault>
     ensures { (input text : List ℕ) × Appends (R.taken reader.old) (R.taken reader.new) input
-        × Appends (W.held writer.old) (W.held writer.new) text }
+        × Appends (W.held writer.old) (W.held writer.new) text
+        × RunsCompare documents (R.ended reader.new) input text result }
 {
-    let mut task = Compare::new(alloc, documents);
-    run_lines(alloc, &mut task, reader, writer)?;
-    Ok(wrong_or(task.wrong(), Outcome::Done))
+    match compare_lists(alloc, documents, reader, writer) {
+        Ok(task) => Ok(wrong_or(task.wrong(), Outcome::Done)),
+        Err(fault) => Err(fault),
+    }
 }
 
 /// Prints the documents with two or more live leaves.

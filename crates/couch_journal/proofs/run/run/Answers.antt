@@ -36,19 +36,13 @@ pub returns-in-Received : goal.returns-in-Received
 returns-in-Received g c = task_ran c.args.task.now (tasks.Received c.in-Received.only_lacks) c.args.options.now _ _ _ _ _ c.run_received.result c.in-Received.is c.run_received.ensures
 
 pub returns-in-Lacking : goal.returns-in-Lacking
-returns-in-Lacking g c =
-    let t = c.run_lacking.ensures in
-    task_ran c.args.task.now (tasks.Lacking) c.args.options.now _ _ _ _ _ c.run_lacking.result c.in-Lacking.is (t.0, t.1, t.2, t.3, tt)
+returns-in-Lacking g c = task_ran c.args.task.now (tasks.Lacking) c.args.options.now _ _ _ _ _ c.run_lacking.result c.in-Lacking.is c.run_lacking.ensures
 
 pub returns-in-Diff : goal.returns-in-Diff
-returns-in-Diff g c =
-    let t = c.run_diff.ensures in
-    task_ran c.args.task.now (tasks.Diff) c.args.options.now _ _ _ _ _ c.run_diff.result c.in-Diff.is (t.0, t.1, t.2, t.3, tt)
+returns-in-Diff g c = task_ran c.args.task.now (tasks.Diff) c.args.options.now _ _ _ _ _ c.run_diff.result c.in-Diff.is c.run_diff.ensures
 
 pub returns-in-Parts : goal.returns-in-Parts
-returns-in-Parts g c =
-    let t = c.run_parts.ensures in
-    task_ran c.args.task.now (tasks.Parts c.in-Parts.bytes c.in-Parts.lines) c.args.options.now _ _ _ _ _ c.run_parts.result c.in-Parts.is (t.0, t.1, t.2, t.3, tt)
+returns-in-Parts g c = task_ran c.args.task.now (tasks.Parts c.in-Parts.bytes c.in-Parts.lines) c.args.options.now _ _ _ _ _ c.run_parts.result c.in-Parts.is c.run_parts.ensures
 
 pub returns-in-Name : goal.returns-in-Name
 returns-in-Name g c =
@@ -56,9 +50,7 @@ returns-in-Name g c =
     task_ran c.args.task.now (tasks.Name c.in-Name.word) c.args.options.now _ _ _ _ _ c.run_name.result c.in-Name.is (t.0, t.1, t.2, t.3, tt)
 
 pub returns-in-Compare : goal.returns-in-Compare
-returns-in-Compare g c =
-    let t = c.run_compare.ensures in
-    task_ran c.args.task.now (tasks.Compare c.in-Compare.documents) c.args.options.now _ _ _ _ _ c.run_compare.result c.in-Compare.is (t.0, t.1, t.2, t.3, tt)
+returns-in-Compare g c = task_ran c.args.task.now (tasks.Compare c.in-Compare.documents) c.args.options.now _ _ _ _ _ c.run_compare.result c.in-Compare.is c.run_compare.ensures
 
 pub returns-in-Conflicts : goal.returns-in-Conflicts
 returns-in-Conflicts g c =
