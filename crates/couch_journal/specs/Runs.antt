@@ -14,6 +14,7 @@ use Rattle.journal_tasks.specs.Counting.{wrong_line}
 use Rattle.journal_tasks.specs.Diffing.{diff_text}
 use Rattle.journal_tasks.specs.Lists.{is_wrong, leaves_in}
 use Rattle.journal_tasks.specs.Missing.{missing_in_input, missing_text, wrong_diffed}
+use Rattle.journal_tasks.specs.Naming.{name_lines}
 use Rattle.journal_tasks.specs.Receiving.{lacks_any, passed_on, received_text, wrong_received}
 use Rattle.journal_tasks.specs.Splitting.{complete_text, parts_text, unended_line}
 use Rattle.journal_responses.specs.Infos.{info_text, is_info}
@@ -156,6 +157,13 @@ abbrev pub RunsParts : ℕ × ℕ → Type 0 → List ℕ → List ℕ → Resul
 RunsParts limit ended input text result =
     RunsLines (complete_text limit) (parts_text limit) (λ lines rest. wrong_or (unended_line lines rest) outcomes.Done) ended input text result
 
+-- The effect of running the task `name`: its output is a line for each leaf that the input lists. Each line of the
+-- output begins with `word`.
+abbrev pub RunsName : List ℕ → Type 0 → List ℕ → List ℕ → Result Outcome ScriptFault → Type 0
+RunsName word ended input text result =
+    RunsLines (λ lines. name_lines word (leaves_in lines)) (λ lines rest. name_lines word (leaves_in lines))
+    (λ lines rest. wrong_or (wrong_line is_wrong lines rest) outcomes.Done) ended input text result
+
 -- ---- the tasks
 
 -- How the output and the result of a task depend on the task's input. For the tasks that the definition does not name,
@@ -171,6 +179,7 @@ RunsTask tasks.Diff o ended input text result = RunsDiff ended input text result
 RunsTask tasks.Lacking o ended input text result = RunsLacking ended input text result
 RunsTask (tasks.Compare documents) o ended input text result = RunsCompare documents ended input text result
 RunsTask (tasks.Parts bytes lines) o ended input text result = RunsParts (bytes, lines) ended input text result
+RunsTask (tasks.Name word) o ended input text result = RunsName word.now ended input text result
 RunsTask other o ended input text result = Unit {0}
 
 -- ---- the program

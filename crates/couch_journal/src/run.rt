@@ -5,7 +5,7 @@ ghost use Rattle.json.specs.Value.{value_view};
 ghost use Rattle.script_engine.specs.Device.{FailsOnce};
 ghost use Rattle.journal_responses.specs.Responses.{IsOther, IsSaid};
 ghost use Rattle.couch_journal.specs.Status.{missing_or_done};
-ghost use Rattle.couch_journal.specs.Runs.{IsNotShown, IsShown, RunsAsk, RunsCompare, RunsDiff, RunsLacking, RunsParts, RunsReceived, RunsResponse, RunsSeal, RunsTask, RunsWords, Shows, ShowsNothing};
+ghost use Rattle.couch_journal.specs.Runs.{IsNotShown, IsShown, RunsAsk, RunsCompare, RunsDiff, RunsLacking, RunsName, RunsParts, RunsReceived, RunsResponse, RunsSeal, RunsTask, RunsWords, Shows, ShowsNothing};
 
 use crate::ended::{Ended, Outcome, missing_or_done, other_or_done, wrong_or};
 use crate::options::{NoTask, Options, matches_of, options_of};
@@ -13,8 +13,8 @@ use crate::tasks::{Task, task_of};
 use journal_core::seal_block;
 use journal_responses::{Said, info_of, page_of, read_said, refused_of};
 use journal_tasks::{
-    Conflicts, Filter, Name, Select, States, ask_leaves, compare_lists, confirm_journal, diff_leaves,
-    lacking_leaves, receive_leaves, split_lines,
+    Conflicts, Filter, Select, States, ask_leaves, compare_lists, confirm_journal, diff_leaves,
+    lacking_leaves, name_leaves, receive_leaves, split_lines,
 };
 use json::{Scratch, Value};
 use line_reader::{LineTask, read_all, run_task};
@@ -362,8 +362,24 @@ fn run_parts<R: ScriptRead, W: ScriptWrite>(
     }
 }
 
+/// Prints a line for each leaf of a list. Each line begins with `word`.
+fn run_named<R: ScriptRead, W: ScriptWrite>(
+    alloc: Global,
+    word: String,
+    reader: &mut R,
+    writer: &mut W,
+) -> Result<Outcome, ScriptFault>
+    ensures { (input text : List ℕ) × Appends (R.taken reader.old) (R.taken reader.new) input
+        × Appends (W.held writer.old) (W.held writer.new) text
+        × RunsName (string_bytes word) (R.ended reader.new) input text result }
+{
+    match name_leaves(alloc, word, reader, writer) {
+        Ok(task) => Ok(wrong_or(task.wrong(), Outcome::Done)),
+        Err(fault) => Err(fault),
+    }
+}
+
 /// Prints a line for each leaf of a list.
-#[tactic(auto, using(crate::proofs::Bytes::nothing_passed))]
 fn run_name<R: ScriptRead, W: ScriptWrite>(
     alloc: Global,
     word: &str,
@@ -371,11 +387,13 @@ fn run_name<R: ScriptRead, W: ScriptWrite>(
     writer: &mut W,
 ) -> Result<Outcome, ScriptFault>
     ensures { (input text : List ℕ) × Appends (R.taken reader.old) (R.taken reader.new) input
-        × Appends (W.held writer.old) (W.held writer.new) text }
+        × Appends (W.held writer.old) (W.held writer.new) text
+        × RunsName word.now (R.ended reader.new) input text result }
 {
-    let mut task = Name::new(alloc, word)?;
-    run_lines(alloc, &mut task, reader, writer)?;
-    Ok(wrong_or(task.wrong(), Outcome::Done))
+    match String::from_str(alloc, word) {
+        Ok(word) => run_named(alloc, word, reader, writer),
+        Err(_) => Err(ScriptFault::Memory),
+    }
 }
 
 /// Prints the leaves of a list that another list lacks.

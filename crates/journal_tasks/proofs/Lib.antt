@@ -7,6 +7,7 @@ pub mod Documents
 pub mod Halves
 pub mod Lacked
 pub mod Lookups
+pub mod Named
 pub mod Receiving
 pub mod Requested
 pub mod Splits
@@ -17,6 +18,7 @@ pub use Counts.{count_end, count_line, count_none}
 pub use Diffed.{diff_end, diff_line}
 pub use Lacked.{lacking_absent, lacking_first, lacking_response, lacking_right, lacking_separator, lacking_wrong}
 pub use Lookups.{doc_added, doc_kept, doc_written, missing_found, missing_none, missing_refused, missing_some, rev_absent, rev_found, revs_found}
+pub use Named.{named_end, named_step}
 pub use Receiving.{break_step, received_right, received_wrong, request_step, response_step}
 pub use Requested.{doc_put, texts_added}
 pub use Splits.{on_all, split_end, split_next, split_same}

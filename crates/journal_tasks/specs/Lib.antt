@@ -7,6 +7,7 @@ pub mod Documents
 pub mod Halves
 pub mod Lists
 pub mod Missing
+pub mod Naming
 pub mod Receiving
 pub mod Selecting
 pub mod Splitting
@@ -19,5 +20,6 @@ pub use Documents.{add_leaves, distinct, docs_of, has_leaf, has_rev, ids_of, rev
 pub use Halves.{first_part, has_second_part, is_empty_line, part_flags, second_part}
 pub use Lists.{is_wrong, is_wrong_entry, leaves_in, listed}
 pub use Missing.{HasLacked, IsLacking, are_about, diffed_docs, diffed_flags, is_about, missing_among, missing_at, missing_by, missing_in_input, missing_leaves, missing_line, missing_lines, missing_text, wrong_diffed}
+pub use Naming.{HasNamed, IsNaming, name_line, name_lines}
 pub use Receiving.{DocView, HasReceived, IsReceiving, WantedView, answered_by, doc_at, doc_of, doc_or_new, doc_view, head_of, heads_in, is_answer, is_empty, is_marked, is_received, is_requested, is_stored, is_unnamed, lacks_any, lacks_by, leaf_at, missing_in, named, passed_line, passed_on, received_by, received_leaves, received_text, requested_by, requested_in, told, told_by, told_in, told_of, unmarked, wanted_at, wanted_revs, wanted_view, with_leaf, with_wanted, wrong_flags, wrong_received}
 pub use Splitting.{HasSplit, IsSplitting, complete_text, fits, has_space, last_text, part_text, parts_text, printed_part, split, unended_line, with_line}

@@ -22,7 +22,7 @@ pub use confirm::{Confirm, confirm_journal};
 pub use conflicts::Conflicts;
 pub use diff::{Diff, diff_leaves};
 pub use lacking::{Lacking, lacking_leaves};
-pub use name::Name;
+pub use name::{Name, name_leaves};
 pub use parts::{Parts, split_lines};
 pub use received::{Received, receive_leaves};
 pub use select::{Filter, Select};

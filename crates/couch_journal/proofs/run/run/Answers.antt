@@ -45,9 +45,7 @@ pub returns-in-Parts : goal.returns-in-Parts
 returns-in-Parts g c = task_ran c.args.task.now (tasks.Parts c.in-Parts.bytes c.in-Parts.lines) c.args.options.now _ _ _ _ _ c.run_parts.result c.in-Parts.is c.run_parts.ensures
 
 pub returns-in-Name : goal.returns-in-Name
-returns-in-Name g c =
-    let t = c.run_name.ensures in
-    task_ran c.args.task.now (tasks.Name c.in-Name.word) c.args.options.now _ _ _ _ _ c.run_name.result c.in-Name.is (t.0, t.1, t.2, t.3, tt)
+returns-in-Name g c = task_ran c.args.task.now (tasks.Name c.in-Name.word) c.args.options.now _ _ _ _ _ c.run_name.result c.in-Name.is c.run_name.ensures
 
 pub returns-in-Compare : goal.returns-in-Compare
 returns-in-Compare g c = task_ran c.args.task.now (tasks.Compare c.in-Compare.documents) c.args.options.now _ _ _ _ _ c.run_compare.result c.in-Compare.is c.run_compare.ensures

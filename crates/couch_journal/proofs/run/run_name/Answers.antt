@@ -1,0 +1,12 @@
+use Rattle.proof_prelude.proofs.{[], inl, refl, subst, All-nil, Appends-nil}
+use Rattle.couch_journal.specs.Runs.{RunsName}
+use Rattle.couch_journal.proofs.run.run_name.Goals as goal
+
+pub returns-in-Ok : goal.returns-in-Ok
+returns-in-Ok g c =
+    let t = c.run_named.ensures in
+    (t.0, t.1, t.2, t.3, subst (λ z. RunsName z (g.R.ScriptRead.ended c.run_named.new.reader) t.0 t.1 c.run_named.result) c.in-Ok.ensures.ok t.4)
+
+pub returns-in-Err : goal.returns-in-Err
+returns-in-Err g c =
+    ([], [], Appends-nil (g.R.ScriptRead.taken c.args.reader.now), Appends-nil (g.W.ScriptWrite.held c.args.writer.now), inl ([], [], [], refl, All-nil _, refl))

@@ -1,0 +1,32 @@
+use Rattle.proof_prelude.proofs.{string_bytes, ap, ◌∙◌}
+use Rattle.journal_tasks.specs.Counting.{wrong_line}
+use Rattle.journal_tasks.specs.Lists.{is_wrong, leaves_in}
+use Rattle.journal_tasks.specs.Naming.{HasNamed, IsNaming, name_lines}
+use Rattle.couch_journal.specs.Status.{wrong_or}
+use Rattle.couch_journal.specs.declared.ended.Outcome.TheVariants as outcomes
+use Rattle.couch_journal.proofs.{lines_done, lines_part}
+use Rattle.couch_journal.proofs.run.run_named.Goals as goal
+
+pub returns-in-Ok : goal.returns-in-Ok
+returns-in-Ok g c =
+    let t = c.in-Ok.ensures.took in
+    let word = string_bytes c.args.word in (
+      t.0,
+      t.1,
+      t.2,
+      t.3,
+      lines_done (HasNamed word) (λ lines. name_lines word (leaves_in lines)) (λ lines rest. name_lines word (leaves_in lines)) (λ lines rest. wrong_or (wrong_line is_wrong lines rest) outcomes.Done) _ t.0 t.1 c.in-Ok.task c.wrong_or.result
+          (λ lines rest h. (h.text_is, c.wrong_or.ensures ∙ ap (λ o. wrong_or o outcomes.Done) (c.wrong.ensures ∙ h.wrong))) c.in-Ok.ensures.ended t.4,
+    )
+
+pub returns-in-Err : goal.returns-in-Err
+returns-in-Err g c =
+    let t = c.in-Err.ensures.stopped in
+    let word = string_bytes c.args.word in (
+      t.0,
+      t.1,
+      t.2,
+      t.3,
+      lines_part (IsNaming word) (HasNamed word) (λ lines. name_lines word (leaves_in lines)) (λ lines rest. name_lines word (leaves_in lines)) (λ lines rest. wrong_or (wrong_line is_wrong lines rest) outcomes.Done) _ t.0 t.1 c.in-Err.fault
+          (λ lines text state k. k.text_is) (λ lines rest text state h. h.text_is) t.4,
+    )
