@@ -112,13 +112,6 @@ compare_second documents lines text line added old new after right e k opened is
 
 -- ---- the end
 
-pub compare_end : (documents : Bool) (lines : List (List ℕ)) (text rest added : List ℕ) (old new : Compare) → IsComparing documents lines text old → old.in_second ≡ true → new.count.wrong ≡ failed_end old.count.wrong old.count.lines rest → added ≡ [] → HasCompared documents lines rest (text ++ added) new
-compare_end documents lines text rest added old new k opened w t = record {
-  text_is = ap (λ z. text ++ z) t ∙ append-nil text ∙ k.text_is;
-  wrong = count_end (λ wrong. wrong) (list_flags lines) rest old.count new.count.wrong k.counting w
-      ∙ sym (cond-true (has_second_part lines) (wrong_line (λ wrong. wrong) (list_flags lines) rest) (option_or (wrong_line (λ wrong. wrong) (list_flags lines) rest) (Some (length lines))) (sym k.part ∙ opened));
-}
-
 flags_length : (lines : List (List ℕ)) → has_second_part lines ≡ false → length (list_flags lines) ≡ length lines
 flags_length lines h =
     ap (λ b. length (map is_wrong (first_part lines) ++ (if b then false ∷ map is_wrong (second_part lines) else []))) h ∙ ap length (append-nil (map is_wrong (first_part lines))) ∙ length-map (first_part lines) is_wrong ∙ ap length (first_all lines h)

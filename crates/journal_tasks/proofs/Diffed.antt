@@ -1,10 +1,10 @@
--- The task `diff` over one line, and at the end of the input.
-use Rattle.proof_prelude.proofs.{◌≡◌, ℕ, Bool, ◌+◌, not, if◌then◌else◌, is_none, List, [], ◌∷◌, ◌++◌, sym, ap, ap₂, ◌∙◌, append-nil}
+-- The task `diff` over one line.
+use Rattle.proof_prelude.proofs.{◌≡◌, ℕ, Bool, ◌+◌, not, List, [], ◌∷◌, ◌++◌, sym, ap, ap₂, ◌∙◌, append-nil}
 use Rattle.journal_lines.specs.Docs.{docs_view}
 use Rattle.journal_lines.specs.Entries.{EntryView, entry_in}
-use Rattle.journal_tasks.specs.{HasDiffed, IsDiffing, add_leaves, counted_as, diff_body, docs_of, failed_end, is_wrong, is_wrong_entry, leaves_in, listed}
+use Rattle.journal_tasks.specs.{IsDiffing, add_leaves, counted_as, docs_of, is_wrong, is_wrong_entry, leaves_in, listed}
 use Rattle.journal_tasks.proofs.Asked.{leaves_in-push}
-use Rattle.journal_tasks.proofs.Counts.{count_end, count_line, not_not}
+use Rattle.journal_tasks.proofs.Counts.{count_line, not_not}
 use Rattle.journal_tasks.proofs.Documents.{docs_more}
 use Rattle.journal_tasks.specs.declared.count.Count.{Count}
 use Rattle.journal_tasks.specs.declared.diff.Diff.{Diff}
@@ -16,12 +16,3 @@ diff_line lines text line added old new after right e is k a r d n t = record {
   docs_are = d ∙ ap₂ add_leaves k.docs_are (ap listed is) ∙ sym (docs_more (leaves_in lines) (listed (entry_in line))) ∙ ap docs_of (sym (leaves_in-push lines line));
   text_is = ap (λ z. text ++ z) t ∙ append-nil text ∙ k.text_is;
 }
-
-pub diff_end : (lines : List (List ℕ)) (text rest added : List ℕ) (old new : Diff) (is_right : Bool) → IsDiffing lines text old → new.count.wrong ≡ failed_end old.count.wrong old.count.lines rest → is_right ≡ is_none new.count.wrong
-    → added ≡ (if is_right then diff_body (docs_view old.docs) else []) → HasDiffed lines rest (text ++ added) new
-diff_end lines text rest added old new is_right k w r a =
-    let is = count_end is_wrong lines rest old.count new.count.wrong k.counting w in
-    record {
-      text_is = ap (λ z. z ++ added) k.text_is ∙ a ∙ ap₂ (λ b z. if b then diff_body z else []) (r ∙ ap is_none is) k.docs_are;
-      wrong = is;
-    }

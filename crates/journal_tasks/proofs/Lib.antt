@@ -13,12 +13,12 @@ pub mod Requested
 pub mod Splits
 pub use Arguments.{done_for, stopped_for}
 pub use Asked.{ask_end, ask_line, asked_items-append, has_begun-append, leaves_in-push}
-pub use Compared.{compare_early, compare_end, compare_first, compare_second, compare_separator, ids_named, ids_pair, leaves_named, leaves_pair}
+pub use Compared.{compare_early, compare_first, compare_second, compare_separator, ids_named, ids_pair, leaves_named, leaves_pair}
 pub use Counts.{count_end, count_line, count_none}
-pub use Diffed.{diff_end, diff_line}
-pub use Lacked.{lacking_absent, lacking_first, lacking_response, lacking_right, lacking_separator, lacking_wrong}
-pub use Lookups.{doc_added, doc_kept, doc_written, missing_found, missing_none, missing_refused, missing_some, rev_absent, rev_found, revs_found}
+pub use Diffed.{diff_line}
+pub use Lacked.{lacking_first, lacking_response, lacking_separator}
+pub use Lookups.{doc_added, doc_written, missing_found, rev_found, revs_found}
 pub use Named.{named_end, named_step}
 pub use Receiving.{break_step, received_right, received_wrong, request_step, response_step}
 pub use Requested.{doc_put, texts_added}
-pub use Splits.{on_all, split_end, split_next, split_same}
+pub use Splits.{on_all, split_next, split_same}

@@ -1,5 +1,5 @@
 -- The documents and leaves that are stored.
-use Rattle.proof_prelude.proofs.{◌≡◌, ℕ, ◌+◌, suc, Bool, true, false, ◌||◌, ◌&&◌, if◌then◌else◌, List, [], ◌∷◌, ◌++◌, drop, drop-cons, slice_get, slice_get_within, get_or_from_slice_get, add-one, flat_map, map, Bor, Option, None, Some, option_map, is_some, is_none, unwrap_or, bytes_eq, Global, String, string_bytes, inl, inr, refl, sym, ap, ap₂, ◌∙◌, fun_ext, cases_Bool, cond-true, cond-false, append_assoc, or_assoc, or-false, list_any, lookup}
+use Rattle.proof_prelude.proofs.{◌≡◌, ℕ, ◌+◌, suc, Bool, true, false, ◌||◌, ◌&&◌, if◌then◌else◌, List, [], ◌∷◌, ◌++◌, drop, drop-cons, slice_get, slice_get_within, get_or_from_slice_get, add-one, flat_map, map, Bor, Option, None, Some, option_map, is_some, unwrap_or, bytes_eq, Global, String, string_bytes, inl, inr, refl, sym, ap, ap₂, ◌∙◌, fun_ext, cases_Bool, cond-false, append_assoc, or_assoc, or-false, list_any, lookup}
 use Rattle.std.specs.String.{string_eq}
 use Rattle.indexmap.specs.IndexMap.{insert_entry}
 use Rattle.indexmap.specs.IndexSet.{IndexSet}
@@ -54,9 +54,6 @@ any_key (k ∷ ks) rev = ap (λ b. bytes_eq rev (string_bytes k) || b) (any_key 
 -- whether a document that is looked up has a revision
 pub rev_found : (docs : DocsView) (id rev : List ℕ) (ks : List (String Global)) (b : Bool) → Some (texts_of ks) ≡ revs_at docs id → b ≡ list_any (λ (k : String Global). bytes_eq rev (string_bytes k)) ks → b ≡ has_rev docs id rev
 rev_found docs id rev ks b e h = h ∙ any_key ks rev ∙ ap (λ o. list_any (bytes_eq rev) (unwrap_or o [])) e
-
-pub rev_absent : (docs : DocsView) (id rev : List ℕ) → None ≡ revs_at docs id → false ≡ has_rev docs id rev
-rev_absent docs id rev e = ap (λ o. list_any (bytes_eq rev) (unwrap_or o [])) e
 
 -- ---- after one leaf more
 
@@ -129,14 +126,6 @@ none_is : (o : Option (List (List ℕ))) → is_some o ≡ false → unwrap_or o
 none_is None h = refl
 none_is (Some x) h = cc
 
--- the document is stored already
-pub doc_kept : (docs : DocsView) (id other : List ℕ) → is_some (revs_at docs id) ≡ true → revs_at docs other ≡ (if bytes_eq other id then Some (unwrap_or (revs_at docs other) []) else revs_at docs other)
-doc_kept docs id other h =
-    elim (cases_Bool (bytes_eq other id)) [
-      | inl y ↦ some_is (revs_at docs other) (ap (λ z. is_some (revs_at docs z)) (same_text other id y) ∙ h) ∙ sym (cond-true (bytes_eq other id) (Some (unwrap_or (revs_at docs other) [])) (revs_at docs other) y)
-      | inr n ↦ sym (cond-false (bytes_eq other id) (Some (unwrap_or (revs_at docs other) [])) (revs_at docs other) n)
-    ]
-
 -- the document is inserted without revisions
 pub doc_added : {S : Type 0} (es new : Entries S) (k : String Global) (s : IndexSet (String Global) S) (id other : List ℕ) → string_bytes k ≡ id → s.keys ≡ [] → new ≡ insert_entry string_eq es k s → is_some (revs_at (map doc_view es) id) ≡ false
     → revs_at (map doc_view new) other ≡ (if bytes_eq other id then Some (unwrap_or (revs_at (map doc_view es) other) []) else revs_at (map doc_view es) other)
@@ -155,15 +144,3 @@ missing_found docs None m e = cc
 missing_found docs (Some leaves) m e =
     let same : m ≡ add_leaves [] leaves = ap (λ o. unwrap_or o []) e in
     ap (λ (h : List ℕ → List ℕ → Bool). flat_map (missing_line h) docs) (fun_ext (λ id. fun_ext (λ rev. ap (λ z. has_rev z id rev) same ∙ leaf_stored [] leaves id rev)))
-
-pub missing_some : (o : Option (List (List ℕ × List ℕ))) (m : DocsView) → Some m ≡ option_map (add_leaves []) o → false ≡ is_none o
-missing_some None m e = cc
-missing_some (Some leaves) m e = refl
-
-pub missing_none : (docs : DocsView) (o : Option (List (List ℕ × List ℕ))) → None ≡ option_map (add_leaves []) o → missing_lines docs o ≡ []
-missing_none docs None e = refl
-missing_none docs (Some leaves) e = cc
-
-pub missing_refused : (o : Option (List (List ℕ × List ℕ))) → None ≡ option_map (add_leaves []) o → true ≡ is_none o
-missing_refused None e = refl
-missing_refused (Some leaves) e = cc

@@ -1,10 +1,10 @@
--- The task `parts` over one line, and at the end of the input.
-use Rattle.proof_prelude.proofs.{◌≡◌, ℕ, Bool, true, false, ◌+◌, if◌then◌else◌, is_none, Option, Result, Ok, Err, OnOk, List, [], ◌∷◌, ◌++◌, length, length-append, flat_map, flat_map-append, refl, sym, ap, ap₂, ◌∙◌, append-nil, arith, cond-true, cond-false}
+-- The task `parts` over one line.
+use Rattle.proof_prelude.proofs.{◌≡◌, ℕ, Bool, true, false, ◌+◌, Result, Ok, Err, OnOk, List, [], ◌∷◌, ◌++◌, length, length-append, flat_map, flat_map-append, refl, sym, ap, ap₂, ◌∙◌, append-nil, arith, cond-true, cond-false}
 use Rattle.std.proofs.lemmas.List.Sums.{fold-append}
 use Rattle.line_reader.specs.Lines.{joined}
 use Rattle.line_reader.proofs.Reading.{joined-append}
-use Rattle.journal_tasks.specs.{HasSplit, IsSplitting, failed_end, fits, has_space, last_text, part_text, printed_part, split, with_line}
-use Rattle.journal_tasks.proofs.Counts.{count_end, count_line}
+use Rattle.journal_tasks.specs.{IsSplitting, fits, has_space, part_text, printed_part, split, with_line}
+use Rattle.journal_tasks.proofs.Counts.{count_line}
 use Rattle.journal_tasks.specs.declared.parts.Parts.{Parts}
 
 -- five facts about the result of a call that did not fail
@@ -55,14 +55,4 @@ split_next limit lines text line added old mid new space k r miss n b l t e z p 
       lines_are = c ∙ ap (λ x. x + 1) z ∙ ap (λ x. length x.1) (sym more);
       part_is = p ∙ ap (λ x. x ++ (line ++ 10 ∷ [])) e ∙ ap (λ x. joined x.1) (sym more);
       text_is = ap₂ (λ x y. x ++ y) k.text_is (printed ∙ sym (append-nil (printed_part s.1))) ∙ sym (flat_map-append printed_part s.0 (s.1 ∷ [])) ∙ ap (λ x. flat_map printed_part x.0) (sym more);
-    }
-
-pub split_end : (limit : ℕ × ℕ) (lines : List (List ℕ)) (text rest added : List ℕ) (old new : Parts) (wrong : Option ℕ) (right : Bool) → IsSplitting limit lines text old → wrong ≡ failed_end old.count.wrong old.count.lines rest → new.count.wrong ≡ wrong → right ≡ is_none wrong
-    → added ≡ (if right then last_text old.lines old.part.items else []) → HasSplit limit lines rest (text ++ added) new
-split_end limit lines text rest added old new wrong right k w n r a =
-    let is = count_end (λ line. false) lines rest old.count wrong k.counting w in
-    let s = split limit lines in
-    record {
-      text_is = ap₂ (λ x y. x ++ y) k.text_is (a ∙ ap₂ (λ b z. if b then z else []) (r ∙ ap is_none is) (ap₂ last_text k.lines_are k.part_is));
-      wrong = n ∙ is;
     }
