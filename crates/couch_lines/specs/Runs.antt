@@ -80,8 +80,8 @@ Makes (Bulk n whole) left held held' result = (answers : List ℕ) → (document
 Makes (Trees db svg) left held held' result = ⊥
 
 -- What a run of `couch_lines` reads and writes, depending on the command line `words` and on how the run ended. If the
--- command line names no task, or an allocation fails before the task starts, the run reads and writes no byte. A run
--- starts only a task that the command line names. Only the task `trees` draws a picture.
+-- command line names no task, or an allocation fails before the task starts, the run reads and writes no byte. If a run
+-- starts a task, the command line names this task. Only the task `trees` draws a picture.
 abbrev pub RunsWords : List (List ℕ) → Option (List ℕ) → Option (List ℕ) → Option (List ℕ) → Option (List ℕ) → Ended → Type 0
 RunsWords words left left' held held' (NotRun why) = Refuses words why × (left' ≡ left) × (held' ≡ held)
 RunsWords words left left' held held' (Ran run) =
@@ -90,9 +90,10 @@ RunsWords words left left' held held' (Drawn ended) =
     (db : Option (String Global)) × (svg : Bool) × Says words (Trees db svg)
     × PicturedBy ended (form_of svg) (option_map string_bytes db) left held held'
 
--- A device (the reader or the writer) failed in a run exactly if the run's error names the device. As an exception, the
--- error `Read` may also mean that the maximum number of reads was reached. Besides the result, `RunCounts` takes three
--- numbers, each before and after the run: the numbers of reads, of the reader's failures, and of the writer's failures.
+-- A device (the reader or the writer) failed in a run exactly if the run's error names the device. The error `Read`
+-- names the reader, but may also mean that the maximum number of reads was reached. Besides the result, `RunCounts`
+-- takes three numbers, each before and after the run: the numbers of reads, of the reader's failures, and of the
+-- writer's failures.
 abbrev pub RunCounts : Result ℕ AnswerFault → ℕ → ℕ → ℕ → ℕ → ℕ → ℕ → Type 0
 RunCounts (Ok passed) reads reads' reader reader' writer writer' = (reader' ≡ reader) × (writer' ≡ writer)
 RunCounts (Err fault) reads reads' reader reader' writer writer' = CountsOf fault reads reads' reader reader' writer writer'

@@ -200,8 +200,8 @@ replicated_text session ended = do
   ending ← ended
   Ok (ending_line session ending)
 
--- The result of a `replicate` line between two existing databases. The fourth argument is the line's selection of
--- documents, or the error with which building the selection failed.
+-- The result of a `replicate` line between two existing databases. The fourth argument of `ReplicatesChosen` is the
+-- line's selection of documents, or the error with which building the selection failed.
 abbrev pub ReplicatesChosen : State → ReplicateAsk → PeerValue × PeerValue → Result Choice Refusal → Told → State
     → Type 0
 ReplicatesChosen old ask both (Ok chosen) told new =
