@@ -19,7 +19,8 @@ into_hub n plan = record { from = n; to = 0; plan = plan }
 abbrev pub out_of_hub : ℕ → Plan → Hop
 out_of_hub n plan = record { from = 0; to = n; plan = plan }
 
--- The hops (replications) into the hub from peer n + 1 and the following peers, one hop for each plan.
+-- The hops (replications) into the hub, one hop for each plan. The first hop comes from peer n + 1, and each later hop
+-- comes from the next peer.
 abbrev pub gathers : ℕ → List Plan → List Hop
 gathers = hops_of into_hub
 

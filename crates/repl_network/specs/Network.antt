@@ -48,15 +48,15 @@ AreCopiesAt copy n backups = (b : BackupValue) → Among b backups → copy n b
 abbrev pub AreTiedAt : {K : Type 0} → (K → BackupValue → Type 0) → K → PeerValue → PeerValue → Choice → Type 0
 AreTiedAt copy n p q chosen = (backups : List BackupValue) → AreCopiesAt copy n backups → IsTiedWith backups p q chosen
 
--- For every selection of documents, each peer and each backup of the peer, as a source, is consistent with each other
--- peer, as a target. No two peers of the network have the same UUID.
+-- For every two different peers and every selection of documents, the first peer and its backups are consistent, as
+-- sources, with the second peer as the target. No two peers of the network have the same UUID.
 pub record AreConsistent {K : Type 0} (peers : K → Option PeerValue) (copy : K → BackupValue → Type 0) : Type 0 where
   pub apart : (m n : K) (p q : PeerValue) → peers m ≡ Some p → peers n ≡ Some q → p.db.uuid ≡ q.db.uuid → m ≡ n
   pub tied : (m n : K) (p q : PeerValue) → peers m ≡ Some p → peers n ≡ Some q → m ≢ n → (chosen : Choice)
       → AreTiedAt copy m p q chosen
 
--- The invariant of a network. The peers are consistent. Each backup is a backup of the peer with the backup's key. All
--- sessions and logs belong to replications between two different peers of the network.
+-- The invariant of a network. The peers are consistent. Each backup with the key n is a backup of the peer with the key
+-- n. All sessions and logs belong to replications between two different peers of the network.
 pub record IsNetwork {K : Type 0} (peers : K → Option PeerValue) (copy : K → BackupValue → Type 0) : Type 0 where
   pub consistent : AreConsistent peers copy
   pub copies : (n : K) (b : BackupValue) → copy n b → IsCopyAt peers n b
@@ -65,7 +65,8 @@ pub record IsNetwork {K : Type 0} (peers : K → Option PeerValue) (copy : K →
 
 -- ---- steps
 
--- The value with key m was s and is s', and the value with key n was t and is t'. No other value has changed.
+-- The value with key m was s and is s', and the value with key n was t and is t'. The values with keys other than m and
+-- n are unchanged.
 pub record AreChanged {K X : Type 0} (old : K → Option X) (m n : K) (s t s' t' : X) (new : K → Option X) : Type 0 where
   pub from : old m ≡ Some s
   pub to : old n ≡ Some t

@@ -35,8 +35,9 @@ pub record IsHop {F : Type 0} (refuses : F → Document → Bool) (peers : List 
   pub open changed use *
   pub replicates : Replicates (refuses target.0) source.1 target.1 hop.plan result source_then target_then
 
--- The result of the hop (replication between two peers) with the index `at` in a list of hops, and the network after
--- the hop. A hop first checks that its source and its target exist and are different peers, and then replicates.
+-- The result of a hop, and the network after the hop. A hop is a replication between two peers, and has the index `at`
+-- in a list of hops. A hop first checks that its source and its target exist and are different peers, and then
+-- replicates.
 pub data TakesHop {F : Type 0} (refuses : F → Document → Bool) (at : ℕ) (peers : List (F × PeerValue)) (hop : Hop)
     : Result Report NetFault → List (F × PeerValue) → Type 0 where
   no_source : length peers ≤ hop.from → TakesHop refuses at peers hop (Err (faults.NoPeer hop.from)) peers
@@ -49,7 +50,7 @@ pub data TakesHop {F : Type 0} (refuses : F → Document → Bool) (at : ℕ) (p
   taken : {report : Report} {peers' : List (F × PeerValue)} → IsHop refuses peers hop (Ok report) peers'
       → TakesHop refuses at peers hop (Ok report) peers'
 
--- How the hops of a list, which are made in order until a hop fails, change the network.
+-- How the hops of a list change the network. The hops are made in order until a hop fails.
 abbrev pub TakesHops : {F : Type 0} → (F → Document → Bool) → ℕ → List (F × PeerValue) → List Hop
     → Result (Unit {0}) NetFault → List (F × PeerValue) → Type 0
 TakesHops refuses at peers [] result peers' = (result ≡ Ok tt) × (peers' ≡ peers)
