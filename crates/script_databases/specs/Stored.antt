@@ -45,12 +45,13 @@ abbrev pub AllDeny : Option (List ℕ) → Entries → Type 0
 AllDeny deny entries =
     (name : List ℕ) (p : Rules × PeerValue) → entry_at entries name ≡ Some p → deny_of p.0 ≡ deny
 
--- The table `new` has p under the name a, and under each other name what the table `old` has.
+-- The table `new` has p under the name a. Under every name other than a, the tables `new` and `old` agree.
 abbrev pub IsWithOne : Entries → List ℕ → Rules × PeerValue → Entries → Type 0
 IsWithOne old a p new =
     (name : List ℕ) → entry_at new name ≡ cond (bytes_eq a name) (Some p) (entry_at old name)
 
--- The table `new` has p under the name a and q under the name b, and under each other name what the table `old` has.
+-- The table `new` has p under the name a, and q under the name b. Under every name other than a and b, the tables `new`
+-- and `old` agree.
 abbrev pub IsWithBoth : Entries → List ℕ → List ℕ → Rules × PeerValue → Rules × PeerValue → Entries → Type 0
 IsWithBoth old a b p q new =
     (name : List ℕ)
