@@ -68,7 +68,7 @@ wrong_compared lines rest =
     if has_second_part lines then wrong else option_or wrong (Some (length lines))
 
 -- A task has read the given lines of an input with two lists. The task has stored the documents and leaves of the
--- input's first list, and has printed the text for the lines of the input's second list.
+-- input's first list, and has printed the text for the second list's lines.
 pub record IsComparing (documents : Bool) (lines : List (List ℕ)) (text : List ℕ) (compare : Compare) : Type 0 where
   pub counting : IsCounting (λ wrong. wrong) (list_flags lines) compare.count
   pub documents_is : compare.documents ≡ documents

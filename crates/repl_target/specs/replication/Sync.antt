@@ -44,8 +44,8 @@ HasRefusedNone p id =
 
 -- How replications in both directions between databases a and b change document `id`. After replications in both
 -- directions, each of the databases a' and b' has all leaves of document `id` that the other database has. If the
--- document's trees before the replications, in a and b, agree and have complete histories, the document is the same
--- afterwards in a' and b'.
+-- document's trees in the earlier databases a and b agree and have complete histories, the document is the same in a'
+-- and b'.
 pub record Meets (a b a' b' : DatabaseValue) (id : Id) : Type 0 where
   pub there : KnowsLeaves b' a' id
   pub back : KnowsLeaves a' b' id
