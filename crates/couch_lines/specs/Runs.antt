@@ -90,10 +90,9 @@ RunsWords words left left' held held' (Drawn ended) =
     (db : Option (String Global)) × (svg : Bool) × Says words (Trees db svg)
     × PicturedBy ended (form_of svg) (option_map string_bytes db) left held held'
 
--- A device (the reader or the writer) failed in a run exactly if the run's error names the device. The error `Read`
--- names the reader, but may also mean that the maximum number of reads was reached. Besides the result, `RunCounts`
--- takes three numbers, each before and after the run: the numbers of reads, of the reader's failures, and of the
--- writer's failures.
+-- A device (the reader or the writer) failed in a run exactly if the run's error names the device. As an exception, the
+-- error `Read` may also mean that the maximum number of reads was reached. Besides the result, `RunCounts` takes three
+-- numbers, each before and after the run: the numbers of reads, of the reader's failures, and of the writer's failures.
 abbrev pub RunCounts : Result ℕ AnswerFault → ℕ → ℕ → ℕ → ℕ → ℕ → ℕ → Type 0
 RunCounts (Ok passed) reads reads' reader reader' writer writer' = (reader' ≡ reader) × (writer' ≡ writer)
 RunCounts (Err fault) reads reads' reader reader' writer writer' = CountsOf fault reads reads' reader reader' writer writer'

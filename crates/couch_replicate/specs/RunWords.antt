@@ -38,10 +38,10 @@ Answered program given taken held held' (Err fault) =
 -- settings. The writer has passed on the script's output, unless a write failed. The statement `Answered` is made
 -- twice: once with the reader's remaining bytes as the script's input, and once with the bytes that the reads returned.
 -- If a run of a script succeeded, the script's input has ended. The arguments `left` and `left'` of `RunsWords` are the
--- remaining bytes of the reader before and after the run. All reads before the run's beginning returned the bytes
--- `took`, and all reads before the run's end returned the bytes `took'`. The argument `at_end` of `RunsWords` says
--- whether the reads reached the input's end. The writer had been given the bytes `held` when the run began, and the
--- bytes `held'` when the run ended. The argument `sent` has the bytes that the writer passed on.
+-- remaining bytes of the reader before and after the run. The reader had returned the bytes `took` when the run began,
+-- and the bytes `took'` when the run ended. The argument `at_end` of `RunsWords` says whether the reads reached the
+-- input's end. The writer had been given the bytes `held` when the run began, and the bytes `held'` when the run ended.
+-- The argument `sent` has the bytes that the writer passed on.
 abbrev pub RunsWords : List (List ℕ) → Option (List ℕ) → Option (List ℕ) → Option (List ℕ) → Option (List ℕ) → Type 0
     → Option (List ℕ) → Option (List ℕ) → Option (List ℕ) → Ended → Type 0
 RunsWords words left left' took took' at_end held held' sent (NotRun why) =

@@ -67,8 +67,8 @@ wrong_compared lines rest =
     let wrong = wrong_line (λ wrong. wrong) (list_flags lines) rest in
     if has_second_part lines then wrong else option_or wrong (Some (length lines))
 
--- A task has read the given lines of an input with two lists. The task has stored the documents and leaves of the
--- input's first list, and has printed the text for the second list's lines.
+-- A task has read the given lines of an input. The task has stored the documents and leaves of the input's first list,
+-- and has printed the text for the second list's lines.
 pub record IsComparing (documents : Bool) (lines : List (List ℕ)) (text : List ℕ) (compare : Compare) : Type 0 where
   pub counting : IsCounting (λ wrong. wrong) (list_flags lines) compare.count
   pub documents_is : compare.documents ≡ documents

@@ -48,8 +48,8 @@ AreCopiesAt copy n backups = (b : BackupValue) → Among b backups → copy n b
 abbrev pub AreTiedAt : {K : Type 0} → (K → BackupValue → Type 0) → K → PeerValue → PeerValue → Choice → Type 0
 AreTiedAt copy n p q chosen = (backups : List BackupValue) → AreCopiesAt copy n backups → IsTiedWith backups p q chosen
 
--- For every selection of documents, a peer and its backups, as sources, are consistent with every different peer, as
--- the target. No two peers of the network have the same UUID.
+-- For every selection of documents, each peer and its backups, as sources, are consistent with every other peer, as the
+-- target. No two peers of the network have the same UUID.
 pub record AreConsistent {K : Type 0} (peers : K → Option PeerValue) (copy : K → BackupValue → Type 0) : Type 0 where
   pub apart : (m n : K) (p q : PeerValue) → peers m ≡ Some p → peers n ≡ Some q → p.db.uuid ≡ q.db.uuid → m ≡ n
   pub tied : (m n : K) (p q : PeerValue) → peers m ≡ Some p → peers n ≡ Some q → m ≢ n → (chosen : Choice)
