@@ -47,9 +47,9 @@ abbrev pub told_hushed : Bool → Told → Told
 told_hushed quiet (Ok text) = Ok (hushed quiet text)
 told_hushed quiet (Err name) = Err name
 
--- The relation `answers` allows a line to have the result `loud`. If the program is quiet and the line succeeds, the
--- line's result `told` is a success with an empty output. If the program is not quiet or the line fails, the line's
--- result `told` is `loud`.
+-- The result `loud`, which the relation `answers` allows, is the line's result before the output of a quiet program is
+-- suppressed. If the program is quiet and the line succeeds, the line's result `told` is a success with an empty
+-- output. If the program is not quiet or the line fails, the line's result `told` is the unsuppressed result `loud`.
 abbrev pub UnlessQuiet : {L : Type 0} → Answering State L → Answering State L
 UnlessQuiet answers old ask told new =
     (loud : Told) × answers old ask loud new × (told ≡ told_hushed old.program.quiet loud)

@@ -47,7 +47,7 @@ pub data Asked : Type 0 where
   ledger : LedgerAsk → Asked
   sync : SyncAsk → Asked
 
--- The request of a line, given the line's command and JSON object, or the error of the line.
+-- The line's request or the line's error, given the line's command and JSON object.
 abbrev pub asked_as : CommandName → Data → Result Asked Refusal
 asked_as word.Load d = seen_as load (load_in d)
 asked_as word.Edit d = seen_as edit (edit_in d)

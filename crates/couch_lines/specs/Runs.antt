@@ -80,8 +80,8 @@ Makes (Bulk n whole) left held held' result = (answers : List ℕ) → (document
 Makes (Trees db svg) left held held' result = ⊥
 
 -- What a run of `couch_lines` reads and writes, depending on the command line `words` and on how the run ended. If the
--- command line names no task, or an allocation fails before the task starts, the run reads and writes no byte. A run
--- starts only a task that the command line names. Only the task `trees` draws a picture.
+-- command line names no task, or an allocation fails before the task starts, the run reads and writes no byte. If a run
+-- starts a task, the command line names this task. Only the task `trees` draws a picture.
 abbrev pub RunsWords : List (List ℕ) → Option (List ℕ) → Option (List ℕ) → Option (List ℕ) → Option (List ℕ) → Ended → Type 0
 RunsWords words left left' held held' (NotRun why) = Refuses words why × (left' ≡ left) × (held' ≡ held)
 RunsWords words left left' held held' (Ran run) =

@@ -20,8 +20,8 @@ use Rattle.couch_replicate.specs.declared.run.Ended.TheVariants.{NotRun, Ran}
 -- output is a prefix of the script's complete output. After the errors `Read` and `Memory`, the program's output ends
 -- between the outputs of two lines. After the error `Read`, the program's output is the output of all lines that were
 -- read. The argument `given` of `Answered` is a predicate of the script's bytes, and `taken` is a predicate of the
--- bytes that were read. The arguments `held` and `held'` of `Answered` are the bytes that the writer had been given
--- when the run began, and when it ended.
+-- bytes that were read. In `Answered`, the writer had been given the bytes `held` when the run began, and the bytes
+-- `held'` when the run ended.
 abbrev pub Answered : Program → (List ℕ → Type 0) → (List ℕ → Type 0) → Option (List ℕ) → Option (List ℕ)
     → Result Bool ScriptFault → Type 0
 Answered program given taken held held' (Ok clean) =
@@ -38,10 +38,10 @@ Answered program given taken held held' (Err fault) =
 -- settings. The writer has passed on the script's output, unless a write failed. The statement `Answered` is made
 -- twice: once with the reader's remaining bytes as the script's input, and once with the bytes that the reads returned.
 -- If a run of a script succeeded, the script's input has ended. The arguments `left` and `left'` of `RunsWords` are the
--- remaining bytes of the reader before and after the run. The arguments `took` and `took'` are the bytes that reads had
--- returned before the run, and after the run. The argument `at_end` of `RunsWords` says whether the reads reached the
--- input's end. The arguments `held` and `held'` are the bytes that the writer had been given before the run and after
--- the run. The argument `sent` has the bytes that the writer passed on.
+-- remaining bytes of the reader before and after the run. The reader had returned the bytes `took` when the run began,
+-- and the bytes `took'` when the run ended. The argument `at_end` of `RunsWords` says whether the reads reached the
+-- input's end. The writer had been given the bytes `held` when the run began, and the bytes `held'` when the run ended.
+-- The argument `sent` has the bytes that the writer passed on.
 abbrev pub RunsWords : List (List ℕ) → Option (List ℕ) → Option (List ℕ) → Option (List ℕ) → Option (List ℕ) → Type 0
     → Option (List ℕ) → Option (List ℕ) → Option (List ℕ) → Ended → Type 0
 RunsWords words left left' took took' at_end held held' sent (NotRun why) =

@@ -34,7 +34,7 @@ pub record IsPrintedMember (m : List ℕ) : Type 0 where
   pub text : m ≡ token_text (key name) ++ print (json_tokens value)
   pub stands : may_stand name value ≡ true
 
--- The text t is a number of RFC 8259, in UTF-8.
+-- The text t is in UTF-8, and has the form of a JSON number in RFC 8259.
 pub record IsDigits (t : List ℕ) : Type 0 where
   pub utf8 : IsUtf8 t
   pub number : IsNumber t

@@ -27,9 +27,9 @@ pub record InAttachments (s : List ℕ) : Type 0 where
   pub quoted : mode_after Outside member ≡ Quoted
   pub named : has_name member (codes "\"_attachments\"") ≡ true
 
--- A run of string bytes (`IsRun`) may follow the beginning s of a document. The text S is the output for s: the
--- beginning of an envelope, with at least one complete member. If a document begins with s, its envelope begins with
--- the output S, provided that the envelope stores all later members in the string `whole`.
+-- A run of string bytes (`IsRun`) may follow the beginning s of a document. The output for the beginning s is the text
+-- S, which begins an envelope and has at least one complete member. If a document begins with s, its envelope begins
+-- with the output S, provided that the envelope stores all later members in the string `whole`.
 pub record IsPutStart (s S : List ℕ) : Type 0 where
   pub may : MayStream s
   pub inside : InAttachments s

@@ -1,5 +1,5 @@
--- Defines how the text of an envelope is built from a document's members, and the text of a document from an envelope's
--- members.
+-- Defines how an envelope's text is built from a document's members, and how a document's text is built from an
+-- envelope's members.
 use Rattle.std.specs.Prelude.{ℕ, ◌==◌, nat_lt, length, get_or, drop, ◌+◌, List, [], ◌∷◌, ◌++◌, cond, Option, Some, option_map, option_and_then}
 use Rattle.json.specs.Print.{quoted}
 use Rattle.doc_envelope.specs.Members.{is_blank}
@@ -9,7 +9,8 @@ use Rattle.doc_envelope.specs.Envelopes.{whole_name, stays, unfolded_member}
 abbrev pub added : List ℕ → List ℕ → List ℕ
 added t m = cond (nat_lt 1 (length t)) (t ++ 44 ∷ m) (t ++ m)
 
--- The content h of an envelope's string `whole` after appending the member m, with a comma before m unless h is empty.
+-- The content of an envelope's string `whole` after the member m is appended to the earlier content h. A comma precedes
+-- m unless h is empty.
 abbrev pub held_with : List ℕ → List ℕ → List ℕ
 held_with h m = cond (length h == 0) (h ++ m) (h ++ 44 ∷ m)
 

@@ -33,9 +33,10 @@ pub data Opens : List ℕ → List ℕ → Type 0 where
   open_later : {u : List ℕ} (m t : List ℕ) → first_length (m ++ 44 ∷ t) ≡ length m → Opens t u → Opens (m ++ 44 ∷ t) u
 
 -- A program that has read the first bytes f of an input may write the bytes F as the first bytes of the output. The
--- program passes on runs (bytes in strings) without storing them. Without the passed-on runs, the input f is the text
--- s, and the output F is the text S. The statement `IsStart s S` says: if an input begins with the text s, its output
--- begins with the text S. The statement `IsStart s S` also says that the bytes after s in an input may be a run.
+-- program passes on runs (bytes in strings) without storing them. If the runs that were passed on are removed, the
+-- input bytes f become the text s, and the output bytes F become S. The statement `IsStart s S` says: if an input
+-- begins with the text s, its output begins with the text S. The statement `IsStart s S` also says that a run, that is,
+-- bytes in strings, may follow s in an input.
 pub data Front (IsStart : List ℕ → List ℕ → Type 0) : List ℕ → List ℕ → List ℕ → List ℕ → Type 0 where
   start : {s S : List ℕ} → IsStart s S → Front IsStart s s S S
   run : {f s F S : List ℕ} → Front IsStart f s F S → IsStart s S → (r : List ℕ) → IsRun r

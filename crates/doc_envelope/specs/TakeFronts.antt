@@ -18,9 +18,8 @@ pub record AppendsOpen (q made S : List ℕ) : Type 0 where
   pub front : S ≡ added made content
 
 -- After the beginning s of an envelope, bytes of a string may be passed on without being stored. The text s ends inside
--- the string that is the value of the envelope's member `whole`. The text `made` is the part of the document that
--- results from the envelope's members before `whole`. If an envelope begins with the text s, its document begins with
--- the text S.
+-- the string that is the value of the envelope's member `whole`. The envelope's members before `whole` give the text
+-- `made`, a part of the document. If an envelope begins with the text s, its document begins with the text S.
 pub record IsTakeStart (s S : List ℕ) : Type 0 where
   pub may : MayStream s
   pub made : List ℕ

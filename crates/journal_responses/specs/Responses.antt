@@ -28,8 +28,8 @@ IsErrorOf error reason NotJson = ⊥
 IsErrorOf error reason Other = ⊥
 IsErrorOf error reason Memory = ⊥
 
--- The error for a JSON value that is not the requested response. The error is `Error` only if the JSON value is an
--- error of CouchDB, and `Other` only if the JSON value is not an error of CouchDB. The error `Memory` (an allocation
+-- The error for a JSON value that is not the requested response. If the error is `Error`, the JSON value is an error of
+-- CouchDB. If the error is `Other`, the JSON value is not an error of CouchDB. The error `Memory` (an allocation
 -- failed) is possible for every JSON value.
 abbrev pub IsSaid : Json → Said → Type 0
 IsSaid j (Error error reason) = error_in j ≡ Some (string_bytes error, string_bytes reason)

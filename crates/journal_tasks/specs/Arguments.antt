@@ -1,5 +1,4 @@
--- This file defines the steps of tasks whose effect depends on an argument, for example on an option of the command
--- line.
+-- This file defines the steps of tasks that take an argument, for example an option of the command line.
 use Rattle.line_reader.specs.Tasks.{Ended, EndsBy, Kept, Steps, StepsBy}
 
 -- Reading a line keeps the statement `kept p` true, for every value p of the argument on which the statement depends

@@ -16,8 +16,8 @@ asked_items begun [] = []
 asked_items begun (leaf ∷ leaves) =
     (if begun then codes "," else codes "{\"docs\":[") ++ asked_leaf leaf ++ asked_items true leaves
 
--- Whether a `_bulk_get` request is not empty after items for `leaves` were added: the request was not empty before
--- (`begun`), or `leaves` is not empty.
+-- Whether a `_bulk_get` request has items after items for `leaves` were added. The request then has items if it already
+-- had items (`begun`), or if `leaves` is not empty.
 abbrev pub has_begun : Bool → List (List ℕ × List ℕ) → Bool
 has_begun begun [] = begun
 has_begun begun (leaf ∷ leaves) = true

@@ -12,7 +12,8 @@ use Rattle.journal_tasks.specs.Lists.{is_wrong, leaves_in}
 use Rattle.journal_tasks.specs.Receiving.{is_empty}
 use Rattle.journal_tasks.specs.declared.compare.Compare.{Compare}
 
--- The ids of the documents that a line of a list names. A line can name a document without leaves.
+-- The ids of the documents that a line of a list names. A line can name a document without naming a leaf of the
+-- document.
 abbrev pub ids_in : EntryView → List (List ℕ)
 ids_in (state leaves) = leaves.1 ∷ []
 ids_in (lacks leaves) = leaves.1 ∷ []
@@ -31,16 +32,17 @@ named_leaves (leaf head) = (codes "-", head.0, head.1.0 ∷ []) ∷ []
 named_leaves wrong = []
 
 -- The line that is printed for the leaves `leaves` of a document of the second list. With the flag `documents`, the
--- line has all leaves, and is printed if the document is not known. Without the flag, the line has the leaves in
--- `missing`, and is printed if there are such leaves.
+-- line has all leaves, and is printed if the document is not known. Without the flag `documents`, the line for the
+-- document has the leaves in `missing`, and is printed if `missing` is not empty.
 abbrev pub compared_line : Bool → Bool → List (List ℕ) → LeavesView → List ℕ
 compared_line true known missing leaves =
     if known then [] else leaves_line (codes "state") leaves.0 leaves.1 leaves.2
 compared_line false known missing leaves =
     if is_empty missing then [] else leaves_line (codes "state") leaves.0 leaves.1 missing
 
--- The line that is printed for the leaves `leaves` of a document (`compared_line`). The first list has a document if
--- `knows` is true of the document's id. The first list has a leaf if `has` is true of the id and the revision.
+-- The line that is printed for the leaves `leaves` of a document (`compared_line`). For a document's id, `knows` says
+-- whether the input's first list names the document. For a leaf's document id and revision, `has` says whether the
+-- input's first list has the leaf.
 abbrev pub compared_by : Bool → (List ℕ → Bool) → (List ℕ → List ℕ → Bool) → LeavesView → List ℕ
 compared_by documents knows has leaves =
     compared_line documents (knows leaves.1) (filter (λ rev. not (has leaves.1 rev)) leaves.2) leaves
@@ -53,8 +55,8 @@ compared documents first line = flat_map (compared_by documents (names_id first)
 abbrev pub compared_text : Bool → List (List ℕ) → List ℕ
 compared_text documents lines = flat_map (compared documents (first_part lines)) (second_part lines)
 
--- For each line of an input, whether the line is not a valid line of a list. The line between the two lists is not
--- wrong.
+-- For each line of an input, whether the line is wrong, that is, not a valid line of a list. The empty line between the
+-- input's two lists is not wrong.
 abbrev pub list_flags : List (List ℕ) → List Bool
 list_flags lines = part_flags is_wrong is_wrong lines
 
@@ -65,8 +67,8 @@ wrong_compared lines rest =
     let wrong = wrong_line (λ wrong. wrong) (list_flags lines) rest in
     if has_second_part lines then wrong else option_or wrong (Some (length lines))
 
--- A task has read the given lines, has stored the documents and leaves of the first list, and has printed the text for
--- the lines of the second list.
+-- A task has read the given lines of an input. The task has stored the documents and leaves of the input's first list,
+-- and has printed the text for the second list's lines.
 pub record IsComparing (documents : Bool) (lines : List (List ℕ)) (text : List ℕ) (compare : Compare) : Type 0 where
   pub counting : IsCounting (λ wrong. wrong) (list_flags lines) compare.count
   pub documents_is : compare.documents ≡ documents

@@ -8,7 +8,8 @@ use Rattle.journal_tasks.specs.Documents.{docs_of}
 use Rattle.journal_tasks.specs.Lists.{is_wrong, leaves_in}
 use Rattle.journal_tasks.specs.declared.diff.Diff.{Diff}
 
--- The member of a `_revs_diff` request for a document, as JSON tokens: the document's id, and the list of its leaves.
+-- The JSON tokens of a document's member in a `_revs_diff` request. The member's name is the document's id, and the
+-- member's value is the list of the document's leaves.
 abbrev pub diff_member : List ℕ × List (List ℕ) → List Token
 diff_member doc = key doc.0 ∷ begin_array ∷ (map string doc.1 ++ end_array ∷ [])
 

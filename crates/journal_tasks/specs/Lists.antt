@@ -2,7 +2,7 @@
 use Rattle.std.specs.Prelude.{ℕ, Bool, true, false, List, [], ◌∷◌, map, flat_map}
 use Rattle.journal_lines.specs.Entries.{EntryView, entry_in, state, lacks, leaf, wrong}
 
--- The leaves in a line of a list of leaves, each with the id of its document.
+-- The leaves that one line of a list names, each with the id of the leaf's document.
 abbrev pub listed : EntryView → List (List ℕ × List ℕ)
 listed (state leaves) = map (λ rev. (leaves.1, rev)) leaves.2
 listed (lacks leaves) = map (λ rev. (leaves.1, rev)) leaves.2

@@ -1,5 +1,5 @@
--- Defines which leaves of a list a response to `_revs_diff` names as missing. The first empty line of the input
--- separates the list and the response.
+-- Defines the leaves of a list that are missing according to a response to `_revs_diff`. The first empty line of the
+-- input separates the list and the response.
 use Rattle.std.specs.Prelude.{◌≡◌, ℕ, Bool, true, false, ◌&&◌, if◌then◌else◌, is_none, is_some, List, [], ◌++◌, filter, flat_map, map, Option, None, Some, option_and_then, unwrap_or, codes}
 use Rattle.std.specs.List.{list_all}
 use Rattle.json.specs.Json.{Json, Members, no_members, member, document}
@@ -20,8 +20,8 @@ use Rattle.journal_tasks.specs.declared.lacking.Lacking.{Lacking}
 abbrev pub missing_at : Json → Option (List (List ℕ))
 missing_at value = option_and_then revs_json (items_at (codes "missing") value)
 
--- Whether a member of a response, which is about the document `id`, lists only revisions that `docs` has for this
--- document. The argument `revs` is the revisions that the member lists, if it lists revisions.
+-- Whether a response's member for the document `id` lists only revisions that `docs` has for this document. The
+-- argument `revs` is the member's list of revisions, or `None` if the member does not have such a list.
 abbrev pub is_about : DocsView → List ℕ → Option (List (List ℕ)) → Bool
 is_about docs id None = false
 is_about docs id (Some revs) = is_some (revs_at docs id) && list_all (has_rev docs id) revs
@@ -36,12 +36,13 @@ abbrev pub missing_leaves : Members → List (List ℕ × List ℕ)
 missing_leaves no_members = []
 missing_leaves (member id value members) = map (λ rev. (id, rev)) (unwrap_or (missing_at value) []) ++ missing_leaves members
 
--- The leaves that the members of a response name as missing, or `None` if `docs` does not have one of these leaves.
+-- The leaves that the members of a response name as missing. The result is `None` unless each member lists only
+-- revisions that `docs` has (`are_about`).
 abbrev pub missing_among : DocsView → Members → Option (List (List ℕ × List ℕ))
 missing_among docs members = if are_about docs members then Some (missing_leaves members) else None
 
--- The leaves that a response names as missing. The result is `None` if the response is not a JSON object, or if a
--- member of this object does not list revisions that `docs` has.
+-- The leaves that a response names as missing. The result is `None` unless the response is a JSON object, and each
+-- member of the object lists only revisions that `docs` has.
 abbrev pub missing_by : DocsView → List ℕ → Option (List (List ℕ × List ℕ))
 missing_by docs response = option_and_then (missing_among docs) (option_and_then as_object (option_and_then document (text_in response)))
 
@@ -62,7 +63,8 @@ abbrev pub diffed_docs : List (List ℕ) → DocsView
 diffed_docs lines = docs_of (leaves_in (first_part lines))
 
 -- The leaves that are missing according to the response in the input, or `None` if the response has a wrong form or is
--- absent. The response is the lines of the second part, and the bytes `rest` after the last line end.
+-- absent. The response consists of the lines after the input's first empty line, and of the bytes `rest` after the
+-- input's last line end.
 abbrev pub missing_in_input : List (List ℕ) → List ℕ → Option (List (List ℕ × List ℕ))
 missing_in_input lines rest =
     if has_second_part lines then missing_by (diffed_docs lines) (joined (second_part lines) ++ rest) else None
@@ -81,8 +83,8 @@ abbrev pub missing_text : List (List ℕ) → List ℕ → List ℕ
 missing_text lines rest =
     if is_none (wrong_diffed lines rest) then missing_lines (diffed_docs lines) (missing_in_input lines rest) else []
 
--- A task has read the given lines, and has stored the documents of the list and the response. The task prints nothing
--- before the end of the input.
+-- A task has read the given lines, has stored the list's documents, and has stored the text of the response. The task
+-- prints nothing before the end of the input.
 pub record IsLacking (lines : List (List ℕ)) (text : List ℕ) (lacking : Lacking) : Type 0 where
   pub counting : IsCounting (λ wrong. wrong) (diffed_flags lines) lacking.count
   pub part : lacking.in_response ≡ has_second_part lines

@@ -51,7 +51,7 @@ is_received heads id rev = list_any (λ head. bytes_eq head.0 id && knows_rev he
 abbrev pub received_leaves : List HeadView → List ℕ → List (List ℕ)
 received_leaves heads id = fold (λ revs head. if bytes_eq head.0 id then add_rev revs head.1.0 else revs) [] heads
 
--- The revisions that a line of a request names and that were not received.
+-- The revisions that a request's line names, without the revisions that were received.
 abbrev pub missing_in : List HeadView → LeavesView → List (List ℕ)
 missing_in heads leaves = filter (λ rev. not (is_received heads leaves.1 rev)) leaves.2
 
@@ -93,9 +93,9 @@ passed_on only lines = flat_map (passed_line only (requested_in (first_part line
 abbrev pub is_empty : List (List ℕ) → Bool
 is_empty revs = nat_eq (length revs) 0
 
--- The lines that `receive_leaves` prints for one line of the request, which requests the leaves `leaves` of a document.
--- The argument `missing` lists the requested leaves in `leaves` that were not received. The argument `received` lists
--- all leaves that were received of the document to which the leaves `leaves` belong.
+-- The lines that `receive_leaves` prints for one line of the request. The request's line asks for the leaves `leaves`
+-- of one document. The list `missing` has the requested leaves that were not received. The list `received` has all
+-- received leaves of the document that the request's line names.
 abbrev pub told_of : Bool → List (List ℕ) → List (List ℕ) → LeavesView → List ℕ
 told_of true received missing leaves =
     if is_empty missing then [] else leaves_line (codes "state") leaves.0 leaves.1 missing
@@ -166,14 +166,15 @@ abbrev pub wanted_at : LeavesView → (List ℕ → Option DocView) → List ℕ
 wanted_at leaves docs id =
     if bytes_eq leaves.1 id then Some (with_wanted leaves.2 (doc_or_new (docs leaves.1))) else docs id
 
--- The data that `receive_leaves` stores for the document `id` after it has read one line of the request.
+-- The data for the document `id` that `receive_leaves` has stored after reading one line of the request.
 abbrev pub requested_by : EntryView → (List ℕ → Option DocView) → List ℕ → Option DocView
 requested_by (state leaves) docs id = wanted_at leaves docs id
 requested_by (lacks leaves) docs id = wanted_at leaves docs id
 requested_by (leaf head) docs id = docs id
 requested_by wrong docs id = docs id
 
--- The data that `receive_leaves` stores for the document `id` after it has received the leaf `head` of some document.
+-- The data for the document `id` that `receive_leaves` has stored after receiving the leaf `head`. The leaf `head` may
+-- belong to the document `id` or to another document.
 abbrev pub leaf_at : HeadView → (List ℕ → Option DocView) → List ℕ → Option DocView
 leaf_at head docs id = if bytes_eq head.0 id then option_map (with_leaf head.1) (docs head.0) else docs id
 
@@ -199,8 +200,9 @@ is_marked wanted rev = list_any (λ item. item.1 && bytes_eq item.0 rev) wanted
 abbrev pub unmarked : List WantedView → List (List ℕ) → List (List ℕ)
 unmarked wanted revs = filter (λ rev. not (is_marked wanted rev)) revs
 
--- The lines that `receive_leaves` prints for one line of the request, which requests the leaves `leaves` of a document.
--- The argument `doc` is the data that `receive_leaves` has stored for the document to which the leaves `leaves` belong.
+-- The lines that `receive_leaves` prints for one line of the request. The request's line asks for the leaves `leaves`
+-- of one document. The argument `doc` is the data that `receive_leaves` has stored for the document that the request's
+-- line names.
 abbrev pub told_by : Bool → Option DocView → LeavesView → List ℕ
 told_by only None leaves = []
 told_by only (Some doc) leaves = told_of only doc.1 (unmarked doc.0 leaves.2) leaves

@@ -6,7 +6,7 @@ abbrev pub is_asked : Option (List ℕ) → List ℕ → Bool
 is_asked None id = true
 is_asked (Some only) id = bytes_eq only id
 
--- Whether a document with `count` leaves is selected. With the flag `several`, a selected document must have two or
+-- Whether a document that has `count` leaves is selected. With the flag `several`, a selected document must have two or
 -- more leaves.
 abbrev pub is_selected : Bool → Option (List ℕ) → List ℕ → ℕ → Bool
 is_selected several only id count = (if several then nat_le 2 count else true) && is_asked only id

@@ -15,11 +15,12 @@ abbrev pub fits : ℕ × ℕ → List (List ℕ) → List ℕ → Bool
 fits limit part line = has_space limit (length part) (length (joined part)) (length line)
 
 -- The parts after one more line. The value `parts` has the complete parts and the last part before the line. The last
--- part takes the line if the line fits. If not, the last part is complete, and the line begins a new part.
+-- part takes the line if the line fits. If the line does not fit into the last part, the last part is complete, and the
+-- line begins a new part.
 abbrev pub with_line : ℕ × ℕ → List (List (List ℕ)) × List (List ℕ) → List ℕ → List (List (List ℕ)) × List (List ℕ)
 with_line limit parts line = if fits limit parts.1 line then (parts.0, parts.1 ++ line ∷ []) else (parts.0 ++ parts.1 ∷ [], line ∷ [])
 
--- The complete parts and the last part of an input with the given lines.
+-- The parts into which an input with the given lines is split: the complete parts, and the last part.
 abbrev pub split : ℕ × ℕ → List (List ℕ) → List (List (List ℕ)) × List (List ℕ)
 split limit lines = fold (with_line limit) ([], []) lines
 
@@ -28,7 +29,7 @@ split limit lines = fold (with_line limit) ([], []) lines
 abbrev pub part_text : ℕ → List ℕ → List ℕ
 part_text lines bytes = codes "part " ++ decimal lines ++ codes " " ++ decimal (length bytes) ++ codes "\n" ++ bytes
 
--- The text that is printed for a part that has the given lines.
+-- The printed text of an input's part, given the lines of the part.
 abbrev pub printed_part : List (List ℕ) → List ℕ
 printed_part part = part_text (length part) (joined part)
 

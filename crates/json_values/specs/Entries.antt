@@ -21,8 +21,7 @@ IsRising es = IsStrictlySortedBy (slice_cmp nat_cmp) (names_of es)
 abbrev pub put_entry : {T : Type 0} → Bor (List ℕ) → T → List (Entry T) → List (Entry T)
 put_entry k v es = insert_entry (λ a b. slice_cmp nat_cmp a.now b.now) es k v
 
--- If the list of members es has an element at index i, this element is the member named k, whose value `put_entry`
--- replaces.
+-- If the list of members es has an element at index i, `put_entry` with the name k replaces this element's value.
 abbrev pub IsPlaceOf : {T : Type 0} → List ℕ → List (Entry T) → ℕ → Type 0
 IsPlaceOf {T} k es i = (name : Bor (List ℕ)) → name.now ≡ k → (v : T) → (e : Entry T) → slice_get es i ≡ Some e → put_entry name v es ≡ slice_set es i (e.0, v)
 

@@ -30,7 +30,7 @@ column_text columns.Read = codes " read"
 column_text columns.Written = codes " written"
 column_text columns.Failed = codes " failed"
 
--- The columns of the given kind of line, in order.
+-- The columns of a line of numbers, in order, given the kind of the line.
 abbrev pub columns_of : Table → List Column
 columns_of tables.Compared =
     columns.ComparedDocuments ∷ columns.ComparedLeaves ∷ columns.ComparedMissing ∷ columns.Contradicting ∷ columns.Differing ∷ []
@@ -53,7 +53,7 @@ pub record EndsIn (column : Column) (n : ℕ) (front text : List ℕ) : Type 0 w
 abbrev pub Ends : List Column → List ℕ → List ℕ → List ℕ → Type 0
 Ends columns numbers front text = InTurn EndsIn columns numbers front text
 
--- The text before the columns of a line of numbers, which is `info DB uuid U`, `session S`, or empty.
+-- The text `front` before the columns of a line of numbers. This text is `info DB uuid U`, `session S`, or empty.
 abbrev pub IsFront : Table → List ℕ → List ℕ → Type 0
 IsFront tables.Compared name front = (front ≡ []) × (name ≡ [])
 IsFront tables.Info name front = (uuid : List ℕ) × (front ≡ (codes "info " ++ name) ++ named (codes " uuid") uuid) × (lacks 32 uuid ≡ true)

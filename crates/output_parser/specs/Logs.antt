@@ -97,7 +97,7 @@ pub record IsHead (line id text : List ℕ) : Type 0 where
   pub lacks_mark : lacks 34 id ≡ true
   pub utf8 : IsUtf8 id
 
--- A line that is a log, `{"_id":"_local/ID","history":[SESSION,..],"replication_id_version":3,"session_id":"..`.
+-- A line that begins as a log, `{"_id":"_local/ID","history":[SESSION,..],"replication_id_version":3,"session_id":"`.
 pub record IsLog (line id : List ℕ) (entries : List Logged) : Type 0 where
   pub text : List ℕ
   pub head : IsHead line id text

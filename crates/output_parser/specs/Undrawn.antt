@@ -18,8 +18,8 @@ is_of_changes line =
     || begins line (codes "last ") || begins line (codes "backed ") || begins line (codes "restored ")
     || begins line (codes "conflicts ")
 
--- Whether the line begins as a line about a session or an audit, or as an error line. The value is also true of the
--- line `clean`, which the command `audit` prints, but not of longer lines that begin with `clean`.
+-- Whether the line begins as a line about a session or an audit, or as an error line. The line `clean`, which the
+-- command `audit` prints, counts as a line about an audit, but longer lines that begin with `clean` do not.
 abbrev pub is_of_sessions : List ℕ → Bool
 is_of_sessions line =
     bytes_eq line (codes "clean") || begins line (codes "progress ") || begins line (codes "stopped ")
@@ -30,11 +30,11 @@ is_of_sessions line =
 abbrev pub is_document : List ℕ → Bool
 is_document line = begins line (codes "{\"_id\":\"") && not (begins line (codes "{\"_id\":\"_local/"))
 
--- Whether the line begins like an output line of `couch_replicate` that pictures do not show.
+-- Whether the line begins like one of the lines that `couch_replicate` prints and pictures do not show.
 abbrev pub is_undrawn : List ℕ → Bool
 is_undrawn line = is_of_changes line || is_of_sessions line || is_document line
 
--- The parsed form of a line that pictures do not show. The parsed form is `Other` if the line can be output of
+-- The parsed form of a line, if pictures do not show the line. The parsed form is `Other` if the line can be output of
 -- `couch_replicate` (`is_undrawn`), and otherwise `Unknown`.
 abbrev pub other_of : List ℕ → Told
 other_of line = if is_undrawn line then told.Other else told.Unknown

@@ -39,7 +39,7 @@ is_rejected h id leaf = list_any (λ e. rejects e.request e.response id leaf) h
 abbrev pub AreSettled : List Exchange → List DocView → Type 0
 AreSettled h rows = (id leaf : Text) → names rows id leaf ≡ true → (is_found h id leaf || is_rejected h id leaf) ≡ true
 
--- The leaves of a page's rows, without the leaves that a response shows at the target (`is_found`).
+-- The leaves of a page's rows, without the leaves that the target has according to a response (`is_found`).
 abbrev pub not_found : List Exchange → List DocView → List DocView
 not_found h rows = docs_where (λ id leaf. not (is_found h id leaf)) rows
 
@@ -50,8 +50,8 @@ abbrev pub log_in : ResponseView → Option LogView
 log_in (log_response log) = Some log
 log_in r = None
 
--- The log that the server `side` (the source or the target) returned last, up to and including an exchange. The
--- parameter `before` is the log that the server had last returned before the exchange.
+-- After an exchange, the log that the server `side` (the source or the target) has returned last. The parameter
+-- `before` is the log that the server had last returned before the exchange.
 abbrev pub log_after : Side → RequestView → ResponseView → Option LogView → Option LogView
 log_after Source (get_log Source) r before = log_in r
 log_after Target (get_log Target) r before = log_in r
@@ -72,8 +72,8 @@ abbrev pub newest_common : List EntryView → List EntryView → Option (Text ×
 newest_common [] source = None
 newest_common (e ∷ target) source = if has_pair source e.session e.seq then Some (e.session, e.seq) else newest_common target source
 
--- The sequence at which a window begins, given the session and the sequence of the newest entry that both replication
--- logs have. The sequence is 0 if the logs have no common entry.
+-- The sequence at which a window begins. The optional argument has the session and the sequence of the newest common
+-- entry of the two replication logs. The sequence is 0 if the logs have no common entry.
 abbrev pub seq_of : Option (Text × Text) → Text
 seq_of None = codes "0"
 seq_of (Some pair) = pair.1
@@ -106,9 +106,9 @@ pub record AreReady (h : List Exchange) (target source : LogView) (s : Text) (fa
   pub reached : Reached (seq_of (newest_common target.history source.history)) before s rejected
   pub counted : min rejected (2 ^ 64 - 1) ≤ failures
 
--- The relay has processed the pages of changes up to the sequence s. Before the relay has processed these pages, it
--- must not request a server to record s in the server's log. The history of a written log is the new entry, followed by
--- the history of the log that was last read.
+-- The relay has processed the pages of changes up to the sequence s. The relay must not ask a server to record the
+-- sequence s before the relay has processed the pages up to s. The history of a written log is the new entry, followed
+-- by the history of the log that was last read.
 pub record IsReady (h : List Exchange) (side : Side) (log : LogView) (s : Text) (failures : ℕ) : Type 0 where
   pub target : LogView
   pub source : LogView
@@ -116,15 +116,14 @@ pub record IsReady (h : List Exchange) (side : Side) (log : LogView) (s : Text) 
   pub own : log ≡ log_of side target source
 
 -- In the exchange of the request q and the response r, the target stored its log and recorded the sequence s. If the
--- request q is `tell`, which prints a message, the exchange is ignored: the statement `before` about the earlier
--- exchanges must be true.
+-- request q is `tell`, which prints a message, the statement `before` about the earlier exchanges must be true instead.
 abbrev pub IsStoring : RequestView → ResponseView → Text → Type 0 → Type 0
 IsStoring (put_log Target log checkpoint) stored_response s before = checkpoint.seq ≡ s
 IsStoring (tell notice) r s before = before
 IsStoring q r s before = ⊥
 
--- In the last exchange that is not a notice, the target stored its log with the recorded sequence s. A notice is a
--- request `tell`, which prints a message.
+-- In the last exchange whose request is not `tell`, the target stored its log with the recorded sequence s. The request
+-- `tell` prints a message.
 abbrev pub IsStored : List Exchange → Text → Type 0
 IsStored [] s = ⊥
 IsStored (e ∷ h) s = IsStoring e.request e.response s (IsStored h s)

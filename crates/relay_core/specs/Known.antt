@@ -1,4 +1,4 @@
--- This file defines the relay's next request in a phase, and what is known about the history in the phase.
+-- For each phase of the relay, this file defines the relay's next request, and what is known about the history.
 use Rattle.std.specs.Prelude.{ℕ, ◌≡◌, ◌-◌, ◌^◌, ◌≤◌, true, if◌then◌else◌, List, [], ◌∷◌, ◌++◌, Option, None, Some, min, option_map, take, drop, slice_get, string_bytes}
 use Rattle.std.specs.Option.{option_map_or}
 use Rattle.relay_core.specs.declared.messages.Side.TheVariants.{Source, Target}
@@ -48,8 +48,9 @@ asked_of phase = option_map_or (λ n. tell (notice_view n)) (slice_get phase.not
 
 -- ---- what is known
 
--- The relay has processed the pages of changes from sequence `begin` to sequence `since`. The count `failures` is at
--- least 2^64 - 1, or includes each leaf that the target refused and lacks, among the leaves of the processed pages.
+-- The relay has processed the pages of changes from sequence `begin` to sequence `since`. Of the leaves of the
+-- processed pages, the target refused and lacks `rejected` leaves. The count `failures` is at least `rejected`, or at
+-- least 2^64 - 1.
 pub record IsReachedFrom (h : List Exchange) (begin since : Text) (failures : ℕ) : Type 0 where
   pub rejected : ℕ
   pub reached : Reached begin h since rejected

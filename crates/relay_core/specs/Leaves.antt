@@ -34,7 +34,7 @@ have_leaves docs = list_all (λ d. is_filled d.1) docs
 abbrev pub are_named : List DocView → Text → List Text → Bool
 are_named docs id revs = list_all (λ r. names docs id r) revs
 
--- Whether the documents of the first list name each leaf of the documents of the second list.
+-- Whether the list `docs` contains each leaf of the documents in the list `named`.
 abbrev pub name_all : List DocView → List DocView → Bool
 name_all docs named = list_all (λ d. are_named docs d.0 d.1) named
 

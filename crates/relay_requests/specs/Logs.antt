@@ -79,8 +79,8 @@ abbrev pub head_tokens : Option Text → Text → Text → List Token
 head_tokens rev session seq =
     begin_object ∷ (rev_tokens rev ++ position_tokens session seq ++ key (codes "history") ∷ begin_array ∷ [])
 
--- The text of a log that records checkpoint c. The text has a new entry, and then the kept entries of `log`, the log
--- that the server last returned.
+-- The text of a log that records checkpoint c. The text has a new entry, and then the kept entries of the log that the
+-- server last returned (`log`).
 abbrev pub log_text : Text → LogView → CheckpointView → Text
 log_text session log c =
     print (head_tokens log.rev session c.seq) ++ print (entry_tokens session c)

@@ -1,4 +1,4 @@
--- Lemmas for dependent crates: a lookup by replication finds the log that `log_in` returns.
+-- Lemmas for dependent crates. Looking up a replication in a list of logs finds the log that `log_in` returns.
 use Rattle.std.proofs.Common.{◌≡◌, Bool, true, false, cond, List, [], ◌∷◌, Option, Some, None, unwrap_or, refl, ap, ◌∙◌}
 use Rattle.std.specs.Map.{lookup}
 use Rattle.repl_log.specs.declared.replication.RepId.{RepId}

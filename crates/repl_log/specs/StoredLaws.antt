@@ -1,4 +1,4 @@
--- Lemmas for dependent crates about tables that store values by session.
+-- Lemmas about tables that store values by session. Dependent crates use these lemmas.
 use Rattle.std.proofs.Common.{◌≡◌, ◌==◌, ◌&&◌, ◌||◌, Bool, true, false, cond, if◌then◌else◌, List, [], ◌∷◌, ◌++◌, map, Option, Some, None, is_some, reverse, refl, sym, ap, ◌∙◌, subst}
 use Rattle.std.specs.List.{find, list_any, IsDistinct, AllByRecursion}
 use Rattle.std.specs.Option.{option_map, option_or}

@@ -52,21 +52,21 @@ MadeAgree peers =
     (among : EditValue → Bool) → HaveNoCollision among → (id : Id) → AllMadeBy among peers id
     → AllAgree peers id × AllWhole peers id
 
--- If a document with another id than `id` was made only by edits from a set (`AllMadeBy`), this stays true after
--- document `id` is stored.
+-- Storing document `id` keeps the property `AllMadeBy` of every other document. The property says that only edits from
+-- a given set made the document.
 abbrev pub StaysMadeExcept : Id → List PeerValue → List PeerValue → Type 0
 StaysMadeExcept id peers peers' =
     (among : EditValue → Bool) (other : Id) → other ≢ id → AllMadeBy among peers other → AllMadeBy among peers' other
 
--- If a document with another id than `id` was made only by edits from a set (`AllMadeBy`), this stays true after an
--- edit of `id`. An edit of document `id` keeps the property `AllMadeBy` of `id` if the edit fails or belongs to the set
--- of edits (`IsOneOf`).
+-- An edit of document `id` keeps the property `AllMadeBy` of every other document. The property says that only edits
+-- from a given set made the document. An edit of document `id` keeps the property `AllMadeBy` of `id` if the edit fails
+-- or belongs to the set of edits (`IsOneOf`).
 abbrev pub StaysMadeByEdit : ℕ → Id → Option RevId → Bool → List ℕ → List PeerValue → List PeerValue → Type 0
 StaysMadeByEdit place id parent deleted body peers peers' =
     (among : EditValue → Bool) (at : Id) → (at ≡ id → IsOneOf among peers place id parent deleted body)
     → AllMadeBy among peers at → AllMadeBy among peers' at
 
--- The call keeps the property `AllMadeBy` (a document was made only by edits of a given set) for every set and for
--- every document.
+-- The call keeps the property `AllMadeBy` of every document, for every set of edits. The property says that only edits
+-- from the set made the document.
 abbrev pub StaysMade : List PeerValue → List PeerValue → Type 0
 StaysMade peers peers' = (among : EditValue → Bool) (id : Id) → AllMadeBy among peers id → AllMadeBy among peers' id

@@ -58,7 +58,7 @@ pub record IsNet (peers : List PeerValue) : Type 0 where
   pub tied : AreTied peers
   pub closed : AreClosed peers
 
--- ---- the trees of a document
+-- ---- the peers' trees of one document
 
 -- In the trees of all peers, a revision of the document never has two different parents or two different contents.
 abbrev pub AllAgree : List PeerValue → Id → Type 0
@@ -80,7 +80,7 @@ IsSameEverywhere peers id =
 
 -- ---- replications
 
--- The plan of each hop selects the document.
+-- The plan of each hop in a list of hops selects the document `id`.
 abbrev pub AllChoose : List Hop → Id → Type 0
 AllChoose [] id = Unit {0}
 AllChoose (h ∷ hops) id = (is_chosen h.plan.chosen id ≡ true) × AllChoose hops id
@@ -136,8 +136,8 @@ IsRooted db d =
 abbrev pub IsRootedAt : List PeerValue → ℕ → Document → Type 0
 IsRootedAt peers place d = (p : PeerValue) → IsAt peers place p → IsRooted p.db d
 
--- No peer's tree disagrees with the edited document about a revision's parent or content. If only edits made the
--- document, an edit violates `EditFits` only if two different edits have the same MD5.
+-- No peer's tree disagrees with the edited document about a revision's parent or content. Suppose that only edits made
+-- the document. If an edit then violates `EditFits`, two different edits have the same MD5.
 abbrev pub EditFits : List PeerValue → ℕ → Id → Option RevId → Bool → List ℕ → Type 0
 EditFits peers place id parent deleted body =
     (p : PeerValue) → IsAt peers place p → (e : RevId × Option RevId) → edited p.db id parent deleted body ≡ Ok e

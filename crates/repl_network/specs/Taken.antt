@@ -50,7 +50,7 @@ pub data TakesHop {F : Type 0} (refuses : F → Document → Bool) (at : ℕ) (p
   taken : {report : Report} {peers' : List (F × PeerValue)} → IsHop refuses peers hop (Ok report) peers'
       → TakesHop refuses at peers hop (Ok report) peers'
 
--- How the hops of a list, which are made in order until a hop fails, change the network.
+-- How the hops of a list change the network. The hops are made in order until a hop fails.
 abbrev pub TakesHops : {F : Type 0} → (F → Document → Bool) → ℕ → List (F × PeerValue) → List Hop
     → Result (Unit {0}) NetFault → List (F × PeerValue) → Type 0
 TakesHops refuses at peers [] result peers' = (result ≡ Ok tt) × (peers' ≡ peers)

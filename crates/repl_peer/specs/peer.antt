@@ -1,4 +1,4 @@
--- These modules define peers, the invariant of a peer, and the local writes of a peer.
+-- The modules in `peer` define peers, the invariant of a peer, and the local writes of a peer.
 pub mod Peer
 pub mod Covered
 pub mod Writing

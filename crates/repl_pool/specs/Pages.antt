@@ -7,8 +7,8 @@ use Rattle.repl_peer.specs.peer.Peer.{PeerValue, SessionValue, session_in}
 use Rattle.repl_target.specs.declared.replication.Plan.{Plan}
 use Rattle.repl_target.specs.replication.Replication.{start_between, next_window}
 
--- The windows of the list are consecutive windows of the source's feed, as the plan defines them, and the first window
--- begins at sequence `since`.
+-- The list has consecutive windows of the source's feed, and the first window begins at sequence `since`. The plan
+-- determines each window.
 abbrev pub ArePages : DatabaseValue → Plan → ℕ → List WindowValue → Type 0
 ArePages source plan since [] = Unit {0}
 ArePages source plan since (w ∷ windows) =

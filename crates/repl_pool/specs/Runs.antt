@@ -56,10 +56,10 @@ pub data IsRecorded (plan : Plan) (fault : Option PoolFault) (complete : Bool) (
   refused : {why : TargetFault} → fault ≡ None → complete ≡ true → conclude_answer before plan.session ≡ Err why
       → after ≡ closed before plan → IsRecorded plan fault complete before after (faults.Refused why)
 
--- The first argument of `UnlessMemory` is the outcome of a run before it stores the session's entry at the source, and
--- the second argument is the run's outcome afterwards. If the run's outcome was a success before the run stored the
--- session's entry, the outcome afterwards is the same success or `Memory`. If the run's outcome was an error before the
--- run stored the session's entry, the outcome afterwards is the same error.
+-- The first argument of `UnlessMemory` is a run's outcome before the run stores the session's entry at the source. The
+-- second argument is the run's outcome after the attempt to store the entry. If the run's outcome was a success before
+-- the run stored the session's entry, the outcome afterwards is the same success or `Memory`. If the run's outcome was
+-- an error before the run stored the session's entry, the outcome afterwards is the same error.
 abbrev pub UnlessMemory : Result Report PoolFault → Result Report PoolFault → Type 0
 UnlessMemory (Ok report) result = (result ≡ Ok report) ⊎ (result ≡ Err faults.Memory)
 UnlessMemory (Err why) result = result ≡ Err why
@@ -131,8 +131,8 @@ pub record IsUnbegun (source target : PeerValue) (plan : Plan) (outcome : Result
   pub told : outcome ≡ Err fault
   pub due : IsUnbegunFor source target plan fault
 
--- If the error of a run is `Unfinished`, it has the low water of the run's session, which is the sequence that the
--- session has recorded.
+-- If the error of a run is `Unfinished`, the error has the low water of the run's session. The run's session has
+-- recorded the low water.
 abbrev pub TellsLowWater : PeerValue → SessionId → PoolFault → Type 0
 TellsLowWater target run (faults.Refused (refusals.Unfinished n)) =
     (s : SessionValue) × (session_in target.sessions run ≡ Some s) × (n ≡ low_water s.front) × (n ≡ s.recorded)
@@ -158,8 +158,8 @@ LeavesOrPuts plan source target source' target' outcome =
 -- The guarantees of a successful run. A successful run returns the report of the plan's session, which began at the
 -- common checkpoint and has recorded the source's update sequence. After a successful run, the target covers the
 -- source's selected feed above the common checkpoint. If the target was empty before the run and refused no document,
--- each selected document is the same at the source and at the target after the run. After a successful run, the numbers
--- of documents that the fetchers counted add up to the report's number of documents read.
+-- each selected document is the same at the source and at the target after the run. After a successful run, the sum of
+-- the fetchers' counts of documents is the report's number of documents read.
 pub record EndsWell (source target target' : PeerValue) (plan : Plan) (n : ℕ) (report : Report) : Type 0 where
   pub reported : IsReported source target target' plan report
   pub covered : CoversFrom source target' plan.chosen (start_between source target plan.chosen)
@@ -195,7 +195,7 @@ pub record RunsOn {F : Type 0} (refuses : F → Document → Bool) (may_fill : T
   -- A third peer that was consistent with the source or the target of a run stays consistent, under the conditions of
   -- `KeepsOthersTied`.
   pub others : KeepsOthersTied source.1 target.1 source'.1 target'.1
-  -- An audit of the peers that a run returns reports nothing if the peers were consistent before the run.
+  -- If the peers were consistent before a run, an audit of the peers after the run reports nothing.
   pub audited : (chosen : Choice) → IsTiedPair source.1 target.1 chosen
       → audit_answer source'.1 target'.1 chosen ≡ None
   -- If a run's session has not begun, both peers are unchanged and the error gives the reason. If a run's session has

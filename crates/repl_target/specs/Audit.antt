@@ -17,8 +17,8 @@ use Rattle.repl_target.specs.declared.auditing.found.Audit.TheVariants.{Clean, H
 abbrev pub hole_under : PeerValue → PeerValue → Choice → ℕ → Option Leaf
 hole_under source target chosen n = first_uncovered target (chosen_feed chosen source.db 0 n)
 
--- The first leaf that is at or below a checkpoint and that the target does not cover, or `None` if there is no
--- checkpoint.
+-- The first leaf that the target does not cover, among the leaves of the source's selected feed up to a checkpoint. The
+-- value is `None` if there is no checkpoint.
 abbrev pub hole_at : PeerValue → PeerValue → Choice → Option (SessionId × ℕ) → Option Leaf
 hole_at source target chosen None = None
 hole_at source target chosen (Some checkpoint) = hole_under source target chosen checkpoint.1

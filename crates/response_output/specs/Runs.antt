@@ -27,15 +27,16 @@ abbrev pub IsBegun : State → Words → List ℕ → Type 0
 IsBegun s w part = (part ≡ []) ⊎ ((written : List ℕ) × HasWritten s written × (part ≡ before w ++ written))
 
 -- The given bytes were read, the items in these bytes were written, and then the beginning `part` of the next item was
--- written. The writer had accepted the bytes `held` before the given bytes were processed, and the bytes `held'` after.
+-- written. The writer had accepted the bytes `held` before the given bytes were processed, and had accepted the bytes
+-- `held'` afterwards.
 pub record Fed (s : State) (w : Words) (bytes : List ℕ) (s' : State) (w' : Words) (part : List ℕ) (held held' : Option (List ℕ)) : Type 0 where
   pub state : s' ≡ after s bytes
   pub words : w' ≡ words_behind w (pieces s bytes)
   pub written : Appends held held' (texts w (pieces s bytes) ++ part)
 
 -- The text `missing` is the part of an item's output that was not written. After the error `Read` or `Memory`,
--- `missing` is empty, because only a failed write leaves an item incomplete. The error `Cut` (of output in pieces) does
--- not occur, because the output of a conversion is not produced in pieces.
+-- `missing` is empty, because only a failed write leaves an item incomplete. The error `Cut`, which only output in
+-- pieces can cause, does not occur, because a conversion does not produce its output in pieces.
 abbrev pub IsWhole : ScriptFault → List ℕ → Type 0
 IsWhole Read missing = missing ≡ []
 IsWhole Write missing = ⊤
@@ -60,10 +61,10 @@ RestBreaks (Device fault) s w front held held' =
     (starts_with nat_eq s.text front ≡ true) × WritesInPart fault (rest_text w s.text (length front)) held held'
 
 -- The reader, the writer or an allocation failed after the parser had read `before`, a prefix of the list `bytes`. The
--- output for the prefix `before` is the output of its complete items, and then `last`, the beginning of the next item's
--- output. The texts `part`, `text` and `missing`, in this order, are the complete output for the prefix `before`. The
--- text `part` was written before the parser read `bytes`, `text` was written later, and `missing` was not written. If
--- no write failed, the text `missing` is empty.
+-- output for the prefix `before` is the output of all complete items in this prefix, followed by the text `last`. The
+-- text `last` is the beginning of the next item's output. The texts `part`, `text` and `missing`, in this order, are
+-- the complete output for the prefix `before`. The text `part` was written before the parser read `bytes`, `text` was
+-- written later, and `missing` was not written. If no write failed, the text `missing` is empty.
 pub record Begins (fault : ScriptFault) (s : State) (w : Words) (part bytes : List ℕ) (held held' : Option (List ℕ)) : Type 0 where
   pub before : List ℕ
   pub behind : List ℕ
@@ -112,9 +113,9 @@ pub data Tracks (s r : State) (front : List ℕ) (at : ℕ) (w : Words) (part : 
       → part ≡ before w ++ cut.written → Tracks s r front at w part
   tracks_stuck : (cut : LongCut) → Rejected cut s r → part ≡ before w ++ cut.written → Tracks s r front at w part
 
--- The parser read the list `bytes`, and each item whose last byte is in `bytes` was written completely. Before the
--- parser read `bytes`, `part` was the written beginning of an item that was not yet complete. After the parser has read
--- `bytes`, `part'` is the written beginning of the next item, which is not yet complete.
+-- The parser read the list `bytes`, and each item whose last byte is in `bytes` was written completely. The text `part`
+-- was written before the parser read `bytes`, and is the beginning of an item that was not complete then. After the
+-- parser has read `bytes`, `part'` is the written beginning of the next item, which is not yet complete.
 pub record Feeds (s : State) (w : Words) (part bytes : List ℕ) (r' : State) (front' : List ℕ) (at' : ℕ) (w' : Words) (held held' : Option (List ℕ)) : Type 0 where
   pub part' : List ℕ
   pub tracks : Tracks (after s bytes) r' front' at' w' part'
@@ -191,10 +192,11 @@ Answered wanted w left held held' passed =
     (read : List ℕ) × IsAll wanted left read × Appends held held' (all_text w (pieces (start wanted) read))
     × (end_of (after (start wanted) read).place ≡ Ok tt) × (passed ≡ (after (start wanted) read).passed)
 
--- What a failed conversion wrote. If the input is invalid at its last byte, the items before this byte are written. If
--- a device or an allocation failed, the written text is a prefix of the output for the complete input. If the
--- conversion failed in a long document, the beginning of the document's output may also be written. After the error
--- `LateMember`, the text written for a long document is not the beginning of the document's complete output.
+-- The output that a conversion had written when it failed. If the input is invalid at its last byte, the items before
+-- this byte are written. If a device or an allocation failed, the written text is a prefix of the output for the
+-- complete input. If the conversion failed in a long document, the beginning of the document's output may also be
+-- written. After the error `LateMember`, the text written for a long document is not the beginning of the document's
+-- complete output.
 abbrev pub Stopped : Wanted → Words → Option (List ℕ) → Option (List ℕ) → Option (List ℕ) → AnswerFault → Type 0
 Stopped wanted w left held held' (Refused why at) =
     (read : List ℕ) × (IsFront wanted left read ⊎ IsAll wanted left read)
@@ -216,9 +218,9 @@ Converts (Err fault) wanted w left held held' = Stopped wanted w left held held'
 
 -- What a conversion guarantees if its input consists of CouchDB's responses or of a script's output. The list `all` has
 -- exactly the items of the input. The conversion of valid responses, or of a script's output, never fails with the
--- error `Refused`. If the conversion succeeds, it has written all items. After the error `LateMember`, the output has
--- the items of a prefix of `all`, followed by the text `begun`. The text `begun` was written for a part of the next
--- item.
+-- error `Refused`. If the conversion succeeds, it has written all items. After the error `LateMember`, the output has a
+-- prefix of the items in the list `all`, followed by the text `begun`. The text `begun` was written for a part of the
+-- next item.
 abbrev pub ReadsAnswers : Words → List Piece → Option (List ℕ) → Option (List ℕ) → Result ℕ AnswerFault → Type 0
 ReadsAnswers w all held held' (Ok passed) = Appends held held' (all_text w all)
 ReadsAnswers w all held held' (Err (Refused why at)) = ⊥

@@ -15,7 +15,7 @@ digit_of value = if nat_lt value 10 then value + 48 else value + 87
 abbrev pub digits_of : List ℕ → List ℕ
 digits_of bytes = map (λ b. digit_of (b / 16)) bytes ++ map (λ b. digit_of (b % 16)) bytes
 
--- Whether a signature is short, that is, has 32 lower-case hexadecimal digits, or at most 16 bytes.
+-- Whether a signature is short: it has 32 lower-case hexadecimal digits, or it has at most 16 bytes.
 abbrev pub is_short : List ℕ → Bool
 is_short text = if length text == 32 then list_all is_hex_digit text else nat_le (length text) 16
 
@@ -25,7 +25,7 @@ unfoldable pub bytes_in : ℕ → ℕ → List ℕ
 bytes_in front back = to_le_bytes w64 front ++ to_le_bytes w64 back
 
 -- The signature that the integers `front` and `back` encode. The two integers together have 16 bytes (`bytes_in`). If
--- `len` is 0, the signature is the 32 hexadecimal digits of these 16 bytes. If `len` is not 0, the signature is the
--- first `len` of the 16 bytes that `front` and `back` together have.
+-- `len` is 0, the signature is the 32 hexadecimal digits of the 16 bytes of `front` and `back`. If `len` is not 0, the
+-- signature is the first `len` bytes of `front` and `back`, which together have 16 bytes.
 abbrev pub text_in : ℕ → ℕ → ℕ → List ℕ
 text_in len front back = if len == 0 then digits_of (bytes_in front back) else take len (bytes_in front back)

@@ -94,8 +94,9 @@ abbrev pub stop_of : TargetFault → Result ℕ Refusal
 stop_of (target.Unfinished low_water) = Ok low_water
 stop_of fault = Err (target_refusal fault)
 
--- The low water, if a replication with a pool of threads returned the error `Unfinished`. If a replication with a pool
--- returned an error other than `Unfinished`, the error with which the script line fails.
+-- The low water, or the error of a script line, after a replication with a pool of threads returned an error. After the
+-- error `Unfinished`, the value is the low water. After an error other than `Unfinished`, the value is the error with
+-- which the script line fails.
 abbrev pub run_stop_of : PoolFault → Result ℕ Refusal
 run_stop_of pool.NoWorkers = Err why.NoWorkers
 run_stop_of pool.TooManyWorkers = Err why.TooManyWorkers

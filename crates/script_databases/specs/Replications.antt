@@ -62,8 +62,8 @@ ReplicatesAlone old source target s t plan result new =
 
 -- ---- by the pool
 
--- Whether the gate, a callback that workers call at each stage, may stop a worker at the stage `place`. In a script,
--- the gate never stops a worker.
+-- Whether the gate may stop a worker at the stage `place`. The gate is a callback that workers call at each stage. In a
+-- script, the gate never stops a worker.
 abbrev pub Nowhere : Place → Type 0
 Nowhere place = ⊥
 

@@ -22,14 +22,14 @@ abbrev pub ReadsChunk : Bool → Option (List ℕ) → Option (List ℕ) → Lis
 ReadsChunk true left left' chunk = Consumes left left' chunk × (0 < length chunk) × (length chunk ≤ 65536)
 ReadsChunk false left left' chunk = Keeps left left' × IsAtEnd left' × (chunk ≡ [])
 
--- A reader made `turns` reads, and no read failed. The reader counts its reads and its failures. During the `turns`
+-- A reader read `turns` times, and no read failed. The reader counts its reads and its failures. During the `turns`
 -- reads, the count of reads changes from `reads` to `reads'`, and the count of failures from `failures` to `failures'`.
 pub record HasRead (turns reads reads' failures failures' : ℕ) : Type 0 where
   pub made : counted reads' 0 ≡ counted reads turns
   pub unfailing : failures' ≡ failures
 
--- The reader failed, or the maximum number of reads was reached. The counts of the reader's reads and failures are
--- `reads` and `failures` before the call, and `reads'` and `failures'` after the call.
+-- The reader failed, or the maximum number of reads was reached. Before the call, the reader had counted `reads` reads
+-- and `failures` failures. After the call, the reader has counted `reads'` reads and `failures'` failures.
 abbrev pub StopsReading : ℕ → ℕ → ℕ → ℕ → Type 0
 StopsReading reads reads' failures failures' =
     FailsOnce failures failures' ⊎ ((counted reads' 0 ≡ counted reads max_reads) × (failures' ≡ failures))

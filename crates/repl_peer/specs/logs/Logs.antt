@@ -34,8 +34,8 @@ abbrev pub as_log_answers : Result (Unit {0}) LogFault → Result (Unit {0}) Tar
 as_log_answers (Ok done) = Ok done
 as_log_answers (Err fault) = Err (refused_by_log fault)
 
--- The result of storing an entry in the source's log, if no allocation fails. The entry's life (a number that changes
--- when a database is restored) must be the current life of the source's database. The entry must not lower the recorded
+-- The result of storing an entry in the source's log, if no allocation fails. The entry's life must be the current life
+-- of the source's database, a number that changes when the database is restored. The entry must not lower the recorded
 -- sequence of the entry's session.
 abbrev pub put_entry_answer : PeerValue → RepId → EntryValue → Result (Unit {0}) TargetFault
 put_entry_answer p rep e =

@@ -31,7 +31,7 @@ refusal_of refuses db d =
 abbrev pub rightly_refused : (Document → Bool) → DatabaseValue → Document → Bool
 rightly_refused refuses db d = refuses d || is_some (contradiction_of db d)
 
--- Whether a ledger has a document with the id `id` and with revision r in its ancestry.
+-- Whether a ledger has document `id` with an ancestry that includes revision r.
 abbrev pub in_ledger : List RefusedValue → Id → RevId → Bool
 in_ledger ledger id r = list_any (λ x. bytes_eq x.doc.id id && is_among r x.doc.ancestry) ledger
 
@@ -69,9 +69,8 @@ abbrev pub first_unknown : (Id → RevId → Bool) → List RowValue → Option 
 first_unknown known [] = None
 first_unknown known (row ∷ rows) = option_or (unknown_in known row) (first_unknown known rows)
 
--- The first leaf that peer p does not cover (a leaf that p has neither in a tree nor in a ledger), in the order of the
--- given feed rows. Peer p does not cover a leaf if the leaf is neither in p's tree of the document, nor in an ancestry
--- of the document in p's ledgers.
+-- The first leaf that peer p does not cover, in the order of the given feed rows. Peer p does not cover a leaf if the
+-- leaf is neither in p's tree of the document, nor in an ancestry of the document in p's ledgers.
 abbrev pub first_uncovered : PeerValue → List RowValue → Option Leaf
 first_uncovered p rows = first_unknown (covers p) rows
 

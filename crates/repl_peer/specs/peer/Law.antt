@@ -19,8 +19,8 @@ use Rattle.repl_peer.specs.peer.Origins.{HasOrigins}
 abbrev pub window_bounds : List WindowValue → List (ℕ × ℕ)
 window_bounds ws = map (λ w. (w.lo, w.hi)) ws
 
--- The invariant of a session's stored windows `ws`, front f (which says which windows are done), recorded sequence n
--- and goal.
+-- The invariant of a session's stored windows `ws`, front f, recorded sequence n and goal. The front of a session says
+-- which windows are done.
 pub record LawfulStore (f : FrontValue) (ws : List WindowValue) (n goal : ℕ) : Type 0 where
   -- A session's windows are consecutive from the session's start, end at or below the goal, and have rows with rising
   -- sequences. The front of a session (which says which windows are done) has the bounds of the session's windows.
@@ -53,8 +53,8 @@ pub record LawfulSession (refuses : Document → Bool) (p : PeerValue) (s : Sess
   pub counts : LawfulCounts s.arrivals s.ledger s.counts
   pub open counts use *
 
--- A session that does not continue an earlier session of the same replication (its base) starts at sequence 0. A
--- session with a base starts at or below the base's recorded sequence.
+-- The base of a session is the earlier session of the same replication that the session continues. A session without a
+-- base starts at sequence 0. A session with a base starts at or below the base's recorded sequence.
 abbrev pub IsBased : List SessionValue → SessionValue → Type 0
 IsBased earlier s =
     (s.base ≡ None) × (s.front.start ≡ 0)

@@ -12,7 +12,7 @@ use Rattle.repl_peer.specs.peer.Peer.{PeerValue, SessionValue, RefusedValue}
 use Rattle.repl_peer.specs.peer.Covered.{rightly_refused}
 use Rattle.repl_peer.specs.peer.Origins.{HasOrigins}
 
--- A ledger of peer p has a rightly refused document with the id `id` whose ancestry has revision r.
+-- A ledger of peer p has a rightly refused document `id`, and the ancestry of this document has revision r.
 pub record IsRightlyRefused (refuses : Document → Bool) (p : PeerValue) (id : Id) (r : RevId) : Type 0 where
   pub by : SessionValue
   pub held : Among by p.sessions

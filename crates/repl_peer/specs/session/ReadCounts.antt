@@ -16,8 +16,8 @@ abbrev pub read_in : List SessionValue → SessionId → ℕ
 read_in sessions id = read_of (session_in sessions id)
 
 -- The number that is added to a session's count of read documents when the session settles a parcel of n documents. The
--- added number is n if all n documents of the parcel were settled, m if settling stopped after m documents, and
--- otherwise 0.
+-- session adds n if all n documents of the parcel were settled, m if settling stopped after m documents, and otherwise
+-- 0.
 abbrev pub taken : Result Settled TargetFault → ℕ → ℕ
 taken (Ok settled) n = n
 taken (Err (faults.Uncovered seq id rev)) n = n

@@ -49,8 +49,8 @@ session_answer p id answer = found_answer answer (session_in p.sessions id)
 
 -- ---- beginning
 
--- The result of checking that a new session starts at or below the recorded sequence of the earlier session that it
--- continues (its base).
+-- The result of checking a new session's start. The start must be at or below the recorded sequence of the session's
+-- base, the earlier session that it continues.
 abbrev pub start_answer : ℕ → ℕ → Result (Unit {0}) TargetFault
 start_answer start recorded = if nat_lt recorded start then Err (faults.StartAboveBase recorded) else Ok tt
 
@@ -129,7 +129,7 @@ after_append p id w = on_session p id (λ s. with_window w s (append_in w s))
 
 -- ---- recording
 
--- The state of session s after recording, at timestamp `at`, the session's low water as its recorded sequence.
+-- The state of session s after recording its low water as the recorded sequence, at timestamp `at`.
 abbrev pub recorded_at : ℕ → SessionValue → SessionValue
 recorded_at at s = record s { recorded = low_water s.front; end_time = at }
 

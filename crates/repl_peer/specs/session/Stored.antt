@@ -29,5 +29,5 @@ pub record IsSession (s : Inside) : Type 0 where
   pub bounds : window_bounds (windows_of s.windows.items) ≡ bounds s.front.front
   pub start : s.front.front.start ≤ s.recorded
   pub read : AddUp s.counts
-  -- The session stores a window without the leaves of its rows only if the window is done.
+  -- If the session stores a window without the leaves of the window's rows, the window is done.
   pub thinned : IsThinnedWhereDone s.front.front s.windows.items

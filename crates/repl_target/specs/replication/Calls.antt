@@ -28,8 +28,9 @@ settled_of refuses p parcel (Ok at) = settled_before refuses at.1 (settling_of p
 abbrev pub most_settled : (Document → Bool) → PeerValue → SessionId → ParcelValue → ℕ
 most_settled refuses p session parcel = settled_of refuses p parcel (settle_check p session parcel)
 
--- The target's state if an allocation fails during the settling of a parcel. The number of settled documents is the
--- lesser of n and the number that `settle` settles if no allocation fails (`most_settled`).
+-- The target's state if an allocation fails during the settling of a parcel. Without a failed allocation, `settle`
+-- settles `most_settled` documents. With a failed allocation, the number of settled documents is the lesser of n and
+-- `most_settled`.
 abbrev pub after_some : (Document → Bool) → PeerValue → SessionId → ParcelValue → ℕ → PeerValue
 after_some refuses p session parcel n =
     after_stop refuses p session parcel (min n (most_settled refuses p session parcel))

@@ -1,5 +1,5 @@
--- Defines how a replication (on one thread or on several threads) changes both peers, as specified in docs/PROFILE.md,
--- "Replication by one thread", "The pool" and "Tied peers".
+-- Defines how a replication changes both peers, whether it runs on one thread or on several threads. Replications are
+-- specified in docs/PROFILE.md, "Replication by one thread", "The pool" and "Tied peers".
 use Rattle.std.specs.Prelude.{◌≡◌, ◌⊎◌, Bool, List}
 use Rattle.rev_tree.specs.Agreement.{IsGrownBy}
 use Rattle.doc_json.specs.Document.{Document}

@@ -43,9 +43,9 @@ HasRefusedNone p id =
     (s : SessionValue) → Among s p.sessions → (x : RefusedValue) → Among x s.ledger → x.doc.id ≡ id → ⊥
 
 -- How replications in both directions between databases a and b change document `id`. After replications in both
--- directions, each of the databases a' and b' has all leaves of document `id` that the other database has. If the trees
--- of document `id` in databases a and b agree and have complete histories, databases a' and b' have the same document
--- `id`.
+-- directions, each of the databases a' and b' has all leaves of document `id` that the other database has. If the
+-- document's trees in the earlier databases a and b agree and have complete histories, the document is the same in a'
+-- and b'.
 pub record Meets (a b a' b' : DatabaseValue) (id : Id) : Type 0 where
   pub there : KnowsLeaves b' a' id
   pub back : KnowsLeaves a' b' id
@@ -57,8 +57,8 @@ pub record Meets (a b a' b' : DatabaseValue) (id : Id) : Type 0 where
   pub whole : IsWhole (tree_of a.docs id) → IsWhole (tree_of b.docs id)
       → IsWhole (tree_of a'.docs id) × IsWhole (tree_of b'.docs id)
 
--- If peers a and b were consistent in both directions (`IsTiedPair`), `Meets` is true of each shared document. A
--- document is shared if both plans select the document, and neither peer has ever refused the document.
+-- If peers a and b were consistent in both directions (`IsTiedPair`), replications change each shared document as
+-- `Meets` says. A document is shared if both plans select the document, and neither peer has ever refused the document.
 abbrev pub MeetBoth : PeerValue → PeerValue → PeerValue → PeerValue → Plan → Plan → Type 0
 MeetBoth a b a' b' there back =
     IsTiedPair a b there.chosen → IsTiedPair b a back.chosen → (id : Id) → HasRefusedNone a' id → HasRefusedNone b' id
