@@ -73,8 +73,8 @@ abbrev pub leaves_by : Option (List ℕ × List ℕ) → Option LeavesView
 leaves_by None = None
 leaves_by (Some parts) = leaves_at (option_and_then token (text_in parts.0)) (text_in parts.1)
 
--- The leaves that a journal line names. The argument `rest` is the part of the line after the first word (`state` or
--- `lacks`) and a blank.
+-- The leaves that a journal line names. The argument `rest` is the part of the line after the line's beginning, which
+-- is `state` or `lacks` and a blank.
 abbrev pub leaves_in : List ℕ → Option LeavesView
 leaves_in rest = leaves_by (cut_at_blank rest)
 

@@ -13,7 +13,7 @@ use Rattle.progress_board.specs.Rule.{most}
 abbrev pub CameWith : Board → BoardSeat → Type 0
 CameWith b s = (s.place.table_id ≡ b.table.shared.table_id) × (length s.place.me.0.reads ≡ b.workers)
 
--- ---- the sums of a seat's lower bounds
+-- ---- the sums of a seat's lower bounds of all read counters, and of all settled counters
 
 abbrev pub seen_read : BoardSeat → ℕ
 seen_read s = sum s.place.me.0.reads
