@@ -7,7 +7,8 @@ use Rattle.couch_base.specs.Database.{IsDocumentTree}
 use Rattle.couch_base.specs.Put.{content_of}
 use Rattle.couch_base.specs.declared.prepared_tree.PreparedTree.{PreparedTree}
 
--- The tree m was prepared for document d: it is an empty tree after a merge of d's ancestry and content.
+-- The tree m was prepared for document d: it is what a merge of d's ancestry and content into an empty tree gives. The
+-- field `key` of m is d's id.
 pub record IsMadeOf (d : Document) (m : PreparedTree) : Type 0 where
   pub key : m.key ≡ d.id
   pub tree : m.tree ≡ merged no_revisions d.ancestry (content_of d.deleted d.body) (Feed m.session m.seq)

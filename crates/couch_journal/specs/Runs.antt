@@ -137,9 +137,9 @@ abbrev pub RunsDiff : Type 0 → List ℕ → List ℕ → Result Outcome Script
 RunsDiff ended input text result =
     RunsLines (λ lines. []) diff_text (λ lines rest. wrong_or (wrong_line is_wrong lines rest) outcomes.Done) ended input text result
 
--- The effect of running the task `lacking`. The output has a line for a document in the input's list if the response in
--- the input says that the document has missing leaves. If no line of the list is wrong, the outcome says whether the
--- response has a wrong form or is absent.
+-- The effect of running the task `lacking`. The output has a line for each document of the input's list for which the
+-- response in the input names missing leaves. If a line of the list is wrong, the output is empty. If no line of the
+-- list is wrong, the outcome says whether the response has a wrong form or is absent.
 abbrev pub RunsLacking : Type 0 → List ℕ → List ℕ → Result Outcome ScriptFault → Type 0
 RunsLacking ended input text result =
     RunsLines (λ lines. []) missing_text

@@ -33,7 +33,8 @@ sigs_of no_items = Some []
 sigs_of (item d ds) = option_and_then (λ sig. option_map (λ sigs. sig ∷ sigs) (sigs_of ds)) (sig_of (as_str d))
 
 -- The ancestry whose newest revision has the generation `start`, and whose revisions have the given signatures. The
--- result is `BadRevisions` if `start` is not a generation, or if the number of signatures is 0 or greater than `start`.
+-- result is `BadRevisions` if `start` is not a generation, or if the list of signatures is absent. The result is also
+-- `BadRevisions` if the number of signatures is 0 or greater than `start`.
 abbrev pub numbered_from : Option ℕ → Option (List (List ℕ)) → Result (List RevId) DocFault
 numbered_from None sigs = Err faults.BadRevisions
 numbered_from (Some start) None = Err faults.BadRevisions

@@ -65,8 +65,8 @@ pub record HasRest {S L : Type 0} (channels : Channels S) (board : Option Board)
   pub shown : HaveShown board r.all.amount r.written.stopped given (r.seats.items ++ held)
   pub room : length (r.seats.items ++ held) ≤ vec_capacity r.seats
 
--- What the caller's thread has, and what it knows, after it has started the workers whose numbers are below `number`, if
--- all these workers still run. No window has been read, and no document has been settled.
+-- What the caller's thread has, and what it knows, after it has started the workers whose numbers are below `number`,
+-- if all these workers still run. No window has been read, and no document has been settled.
 pub record IsStarting {S L : Type 0} (channels : Channels S) (board : Option Board) (may_stop : Place → Type 0)
     (roles : Roles) (given : List BoardSeat) (number fetchers writers : ℕ) (held : List BoardSeat) (r : Rest S L)
     : Type 0 where

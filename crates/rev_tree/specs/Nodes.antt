@@ -51,8 +51,8 @@ abbrev pub entry_of : {X : Type 0} → RevId → Option X → List (RevId × X)
 entry_of r None = []
 entry_of r (Some x) = (r, x) ∷ []
 
--- A list of map entries. If the function f returns a value for a node, the list has one entry for this node. The key of
--- a node's map entry is the node's revision.
+-- A list of map entries. If the function f returns a value for a node, the list has one entry for this node, and
+-- otherwise no entry for it. The key of a node's map entry is the node's revision.
 abbrev pub entries_of : {X : Type 0} → (NodeValue → Option X) → List NodeValue → List (RevId × X)
 entries_of f [] = []
 entries_of f (n ∷ nodes) = entry_of n.rev (f n) ++ entries_of f nodes

@@ -1,5 +1,6 @@
 -- Theorems about a tree that is a part of another tree. If tree t is a part of tree s, it is still a part of s after
--- adding a leaf of s and the leaf's ancestors. If a part of tree s has all leaves of s, the part is equal to s.
+-- adding a leaf of s and the leaf's ancestors. If a part of tree s has all leaves of s, the part has the same
+-- revisions, parents and leaf contents as s.
 use Rattle.std.proofs.Common.{◌≡◌, ℕ, zero, suc, ◌≤◌, true, false, not, cond, ◌||◌, List, [], ◌∷◌, Option, Some, None, is_some, refl, sym, ap, ◌∙◌, inl, inr, arith}
 use Rattle.std.specs.Option.{option_map_or, option_or}
 use Rattle.std.specs.Ordering.{eq_by_cmp}
