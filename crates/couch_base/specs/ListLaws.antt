@@ -1,5 +1,5 @@
--- Lemmas about tests of lists (whether at least one element passes, or all elements pass), and about lists without
--- duplicates.
+-- Lemmas about three properties of lists: at least one element passes a test, all elements pass a test, and the list
+-- has no duplicates.
 use Rattle.std.specs.Prelude.{◌≡◌, ℕ, Bool, true, false, ◌||◌, List, [], ◌∷◌, ◌++◌, map, filter, refl}
 use Rattle.std.proofs.Common.{ap, ◌∙◌}
 use Rattle.std.proofs.lemmas.Bool.{or_right, cond_both, or_parts, and_from, or_left, or_from}
@@ -18,7 +18,7 @@ use Rattle.couch_base.specs.Lists.{EachOnce}
 
 -- ---- ids
 
--- Two ids that compare as equal are equal.
+-- If `bytes_eq` returns true for two ids, the ids are equal.
 pub id_is : (a b : List ℕ) → bytes_eq a b ≡ true → a ≡ b
 id_is a b h = (bytes_eq-Decides a b).0 h
 

@@ -80,7 +80,8 @@ abbrev pub leaf_document : Id → TreeValue → RevId → Document
 leaf_document id t leaf =
     record { id = id; ancestry = ancestors t leaf; deleted = is_deleted t leaf; body = body_at t leaf }
 
--- Revision r of document `id` as a document, if the document's tree t stores the content of r.
+-- The document with the id `id`, revision r's ancestry in tree t, and r's content. The value is `None` if t does not
+-- store r's content.
 abbrev pub document_in : Id → TreeValue → RevId → Option Document
 document_in id t r =
     option_map (λ (c : ContentValue). record { id = id; ancestry = ancestors t r; deleted = c.deleted; body = c.body })

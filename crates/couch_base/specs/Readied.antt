@@ -7,14 +7,14 @@ use Rattle.couch_base.specs.Database.{IsDocumentTree}
 use Rattle.couch_base.specs.Put.{content_of}
 use Rattle.couch_base.specs.declared.prepared_tree.PreparedTree.{PreparedTree}
 
--- The prepared tree m is the tree of document d as a new document: d's ancestry and content, merged into an empty tree.
+-- The tree m was prepared for document d: it is what a merge of d's ancestry and content into an empty tree gives. The
+-- field `key` of m is d's id.
 pub record IsMadeOf (d : Document) (m : PreparedTree) : Type 0 where
   pub key : m.key ≡ d.id
   pub tree : m.tree ≡ merged no_revisions d.ancestry (content_of d.deleted d.body) (Feed m.session m.seq)
   pub document : IsDocumentTree m.tree
 
--- If the list `docs` has a document at an index, a prepared tree at the same index of the list `all` is this document's
--- tree (`IsMadeOf`).
+-- A prepared tree at index i of the list `all` is the tree (`IsMadeOf`) of the document, if any, at index i of `docs`.
 abbrev pub AreMade : List Document → List (Option PreparedTree) → Type 0
 AreMade docs all =
     (i : ℕ) (d : Document) (m : PreparedTree) → slice_get docs i ≡ Some d → slice_get all i ≡ Some (Some m) → IsMadeOf d m

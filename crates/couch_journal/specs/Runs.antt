@@ -102,10 +102,10 @@ RunsSeal chain seq ended input text (Err fault) = (text ≡ []) ⊎ (ended × Is
 -- ---- the tasks on lines
 
 -- The effect of running a task that reads its input line by line. The function `prints` gives the text that the task
--- prints before the end of the input. The function `output` gives the complete output, and `outcome` gives the outcome.
--- If the task fails, the output is a prefix of the text that `prints` gives for the input's first n lines, for some
--- number n. A task that fails after it has read the end of its input may have written any prefix of its complete
--- output.
+-- prints before the end of the input. If the task does not fail, its output is the value of `output`, and its result is
+-- the value of `outcome`. If the task fails, the output is a prefix of the text that `prints` gives for the input's
+-- first n lines, for some number n. A task that fails after it has read the end of its input may have written any
+-- prefix of its complete output.
 abbrev pub RunsLines : (List (List ℕ) → List ℕ) → (List (List ℕ) → List ℕ → List ℕ) → (List (List ℕ) → List ℕ → Outcome)
     → Type 0 → List ℕ → List ℕ → Result Outcome ScriptFault → Type 0
 RunsLines prints output outcome ended input text (Ok result) =
@@ -137,16 +137,16 @@ abbrev pub RunsDiff : Type 0 → List ℕ → List ℕ → Result Outcome Script
 RunsDiff ended input text result =
     RunsLines (λ lines. []) diff_text (λ lines rest. wrong_or (wrong_line is_wrong lines rest) outcomes.Done) ended input text result
 
--- The effect of running the task `lacking`. The output has a line for each document of the input's list that has
--- missing leaves according to the response in the input. If no line of the list is wrong, the outcome says whether the
--- response has a wrong form or is absent.
+-- The effect of running the task `lacking`. The output has a line for each document of the input's list for which the
+-- response in the input names missing leaves. If a line of the list is wrong, the output is empty. If no line of the
+-- list is wrong, the outcome says whether the response has a wrong form or is absent.
 abbrev pub RunsLacking : Type 0 → List ℕ → List ℕ → Result Outcome ScriptFault → Type 0
 RunsLacking ended input text result =
     RunsLines (λ lines. []) missing_text
     (λ lines rest. wrong_or (wrong_diffed lines rest) (other_or_done (is_none (missing_in_input lines rest)))) ended input text result
 
 -- The effect of running the task `compare`: its output is the leaves that only the second list of the input has. If
--- `documents` is true, its output is the documents that only the second list names.
+-- `documents` is true, the output of the task `compare` is the documents that only the input's second list names.
 abbrev pub RunsCompare : Bool → Type 0 → List ℕ → List ℕ → Result Outcome ScriptFault → Type 0
 RunsCompare documents ended input text result =
     RunsLines (compared_text documents) (λ lines rest. compared_text documents lines)

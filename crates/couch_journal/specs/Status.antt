@@ -22,8 +22,8 @@ abbrev pub missing_or_done : Bool → Outcome
 missing_or_done true = Missing
 missing_or_done false = Done
 
--- The outcome of a task: `Said` with the error `Other` if the response does not have the form that the task reads, and
--- otherwise `Done`.
+-- The outcome of a task is `Said Other` if the response does not have the form that the task reads. If the response has
+-- this form, the outcome of the task is `Done`.
 abbrev pub other_or_done : Bool → Outcome
 other_or_done true = Said Other
 other_or_done false = Done

@@ -119,7 +119,7 @@ Takes n o task = (has_other_option n o ≡ false) × (arguments_given o ≡ argu
 abbrev pub IsTaskOf : Options → Task → Type 0
 IsTaskOf o task = (n : Named) × (o.task.now ≡ word_of n) × Takes n o task
 
--- The command line with the options o names no task, or names a task that does not take the arguments and options in o.
+-- The command line o names no task, or names a task that does not take the arguments and options of o.
 abbrev pub IsTaskless : Options → Type 0
 IsTaskless o =
     ((n : Named) → o.task.now ≡ word_of n → ⊥)

@@ -41,8 +41,8 @@ head_view head = record { status = head.status; size = head.size; who = head.who
 abbrev pub BeginsWithHead : List ℕ → HeadView → List ℕ → Type 0
 BeginsWithHead bytes head rest = (line : List ℕ) × IsLine bytes line rest × IsHead line head
 
--- The result of reading the head of a response. The call appends the bytes that it reads to the inbox's pending bytes,
--- which are not yet used. A head is the first line of a response. If the call returns a head, the pending bytes began
+-- The result of reading the head of a response. The call reads bytes, and appends them to the inbox's pending bytes
+-- (the bytes not yet used). A head is the first line of a response. If the call returns a head, the pending bytes began
 -- with the head's line, and the bytes after the head's line remain pending. If the call returns no head, the pending
 -- bytes did not begin with a complete response.
 abbrev pub ReadsHead : Option (List ℕ) → Option (List ℕ) → Type 0 → List ℕ → List ℕ → Option Head → Type 0

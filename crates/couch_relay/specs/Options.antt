@@ -38,7 +38,7 @@ with_numbers app =
     with_rule (with_rule (with_rule app (number_option (codes "batch"))) (number_option (codes "carry")))
     (number_option (codes "every"))
 
--- The given command line with the options for the feed, the filter and the selection added.
+-- The given command line, extended by the options for the feed, the filter and the selection.
 abbrev pub with_options : App → App
 with_options app = with_rule (with_rule (with_rule (with_rule (with_rule (with_rule
     app (flag_option (codes "continuous"))) (flag_option (codes "progress"))) (text_option (codes "filter")))
@@ -50,7 +50,7 @@ command_line = with_options (with_numbers (with_arguments (program_app (codes "c
 
 -- ---- option values
 
--- The number n is the value of an option's text, which is a decimal numeral. If an option has no text, the option's
+-- If an option has a text, this text is a decimal numeral, and n is its value. If an option has no text, the option's
 -- value n is the number `default`.
 abbrev pub IsValue : Option Text → ℕ → ℕ → Type 0
 IsValue None default n = n ≡ default

@@ -33,8 +33,8 @@ abbrev pub BeginsWithResponse : RequestView → List ℕ → List ℕ → Dated 
 BeginsWithResponse q bytes rest d =
     (frame : List ℕ) × (bytes ≡ frame ++ rest) × IsResponse q frame (response_view d.response) (string_bytes d.date)
 
--- The result of receiving the response to request q. The call appends the bytes that it reads to the inbox's pending
--- bytes, which are not yet used. If the call returns a response, the pending bytes began with this response, and the
+-- The result of receiving the response to request q. The call reads bytes, and appends them to the inbox's pending
+-- bytes (the bytes not yet used). If the call returns a response, the pending bytes began with this response, and the
 -- bytes after the response remain pending. If the call returns no response, the pending bytes did not begin with a
 -- complete response.
 abbrev pub Receives : RequestView → Option (List ℕ) → Option (List ℕ) → Type 0 → List ℕ → List ℕ → Option Dated → Type 0
@@ -146,14 +146,14 @@ pub record IsChoice (input : List ℕ) (choice : Text) (rest : List ℕ) : Type 
   pub choice_is : choice ≡ on_one_line body
 
 -- The bytes `input` do not begin with a selection of documents. Either `input` does not begin with a complete response,
--- or the body of this response is not UTF-8.
+-- or it begins with a response whose body is not UTF-8.
 abbrev pub NoChoice : Type 0 → List ℕ → Type 0
 NoChoice ended input =
     NoFrame ended input
     ⊎ ((frame body rest : List ℕ) × (head : HeadView) × (input ≡ frame ++ rest) × IsFrame frame head body × ¬ IsUtf8 body)
 
--- The result of reading a response that has a selection of documents. The call appends the bytes that it reads to the
--- inbox's pending bytes, which are not yet used. If the call returns a selection of documents, the pending bytes began
+-- The result of reading a response that has a selection of documents. The call reads bytes, and appends them to the
+-- inbox's pending bytes (the bytes not yet used). If the call returns a selection of documents, the pending bytes began
 -- with a response that has this selection. The bytes after this response remain pending. If the call returns no
 -- selection of documents, the inbox's pending bytes did not begin with a response that has a selection.
 abbrev pub ReadsChoice : Option (List ℕ) → Option (List ℕ) → Type 0 → List ℕ → List ℕ → Option Text → Type 0
@@ -167,8 +167,8 @@ abbrev pub TakesChoice : Options → List ℕ → Text → List ℕ → Type 0
 TakesChoice options input choice rest =
     (options.choice ≡ true → IsChoice input choice rest) × (options.choice ≡ false → (choice ≡ []) × (rest ≡ input))
 
--- The result of reading the selection that the options may require. The call appends the bytes that it reads to the
--- inbox's pending bytes, which are not yet used. A returned text is the selection at the beginning of the pending
+-- The result of reading a selection of documents, if the options require one. The call reads bytes, and appends them to
+-- the inbox's pending bytes (the bytes not yet used). A returned text is the selection at the beginning of the pending
 -- bytes, or the empty text if the options require no selection. If the call returns no text, the options require a
 -- selection, and the pending bytes did not begin with a selection.
 abbrev pub FindsChoice : Options → Option (List ℕ) → Option (List ℕ) → Type 0 → List ℕ → List ℕ → Option Text → Type 0

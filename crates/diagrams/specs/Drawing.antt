@@ -55,8 +55,8 @@ pub record Holds (d : Document) (id : List ℕ) (leaves : List State) : Type 0 w
   pub named : string_bytes d.id ≡ id
   pub read : states d ≡ leaves
 
--- Which document is incomplete after a line of a script's output, and which item (document, comparison, row of numbers
--- or log) the line completes.
+-- Says which document is incomplete after a line of a script's output. Also says which item the line completes: a
+-- document, a comparison, a row of numbers or a log.
 pub data IsNext : Option Document → Told → Option Document → Option Whole → Type 0 where
   -- A line of a script's output that begins a document.
   opened : {old : Option Document} {id : String Global} {count : ℕ} {d : Document} → Holds d (string_bytes id) [] → d.count ≡ count
@@ -69,7 +69,7 @@ pub data IsNext : Option Document → Told → Option Document → Option Whole 
   whole : {d e : Document} {live : Bool} {revs : Vec RevId Global} (r : RevId) → head_of revs.items ≡ Some r
       → Holds e (string_bytes d.id) (with_leaf (states d) r live) → e.count ≡ d.count → e.count ≤ vec_len e.leaves
       → IsNext (Some d) (told.Leaf live revs) None (Some (wholes.Tree e))
-  -- A line of a script's output with a leaf, if no document is incomplete before this line.
+  -- A line of a script's output that prints a leaf, while no document is incomplete.
   loose : {live : Bool} {revs : Vec RevId Global} → IsNext None (told.Leaf live revs) None None
   -- A line of a script's output with a leaf whose list of revisions is empty. Parsing never produces a leaf with an
   -- empty list of revisions.
@@ -89,8 +89,8 @@ pub data IsNext : Option Document → Told → Option Document → Option Whole 
 
 -- ---- pictures
 
--- A picture of document d. The picture has the document's id and each leaf once, in any order. A text picture with a
--- database name also has the commands that resolve the document's conflict.
+-- A picture of document d. The picture has the document's id and each leaf once, in any order. If a database name is
+-- given, a text picture also has the commands that resolve the conflict of document d.
 pub record IsPicture (form : Form) (db : Option (List ℕ)) (d : Document) (text : List ℕ) : Type 0 where
   pub leaves : List Leaf
   pub each : IsPermutation (states d) (map state_of leaves)
@@ -139,8 +139,8 @@ Pictures old line (Err name) new =
 
 -- ---- everything from a reader
 
--- The state (`Sketch`) of the conversion of a script's output into a picture, before the conversion reads its first
--- line. The state `first_sketch` has no incomplete document.
+-- The state (`Sketch`) in which the conversion of a script's output into a picture begins. The state `first_sketch` has
+-- no incomplete document.
 abbrev pub first_sketch : Form → Option (List ℕ) → Sketch
 first_sketch form db = record { form = form; db = db; begun = None; tally = none_counted }
 
@@ -159,8 +159,8 @@ pub record IsPictureOf (form : Form) (db : Option (List ℕ)) (input : List ℕ)
   pub parts : picture ≡ (head ++ text) ++ tail
   pub safe : (shows : List ℕ) → IsSafe form (shown form (chars shows))
 
--- The call wrote a picture of its input, which consists of all remaining bytes of the reader (`left`). The writer had
--- accepted the bytes `held` before the call, and the bytes `held'` after the call.
+-- The call wrote a picture of its input. The input consists of all bytes `left` that the reader had not returned before
+-- the call. The writer had accepted the bytes `held` before the call, and the bytes `held'` after the call.
 pub record IsPictured (form : Form) (db : Option (List ℕ)) (outcome : Outcome) (left held held' : Option (List ℕ)) : Type 0 where
   pub input : List ℕ
   pub gives : Gives left input
@@ -172,7 +172,7 @@ pub record IsPictured (form : Form) (db : Option (List ℕ)) (outcome : Outcome)
 abbrev pub BeginsPicture : (List ℕ → Type 0) → List ℕ → Type 0
 BeginsPicture holds text = (head : List ℕ) × Draws [] head [] × (drawn : List ℕ) × holds drawn × (text ≡ head ++ drawn)
 
--- The given text is the part of a picture that was written before the given error occurred. After the errors `Read` and
+-- The given text is the part of a picture that was written before the given error occurred. After an error `Read` or
 -- `Memory`, each drawing in the text is complete. After the error `Cut`, the text ends within a drawing. After the
 -- error `Write`, the text may be any text.
 abbrev pub IsDrawnUntil : ScriptFault → Form → Option (List ℕ) → List ℕ → List ℕ → Type 0
@@ -181,9 +181,9 @@ IsDrawnUntil Write form db input text = ⊤
 IsDrawnUntil Memory form db input text = BeginsPicture (AnswersFirst Pictures (first_sketch form db) input) text
 IsDrawnUntil Cut form db input text = BeginsPicture (AnswersCut Pictures (first_sketch form db) input) text
 
--- The call failed, and has written a prefix of a picture of its input. The input consists of all bytes `left` that the
--- reader had not returned before the call. The writer had accepted the bytes `held` before the call, and the bytes
--- `held'` after the call.
+-- The call failed. The text that it wrote is the beginning of a picture that shows its input. The input consists of all
+-- bytes `left` that the reader had not returned before the call. The writer had accepted the bytes `held` before the
+-- call, and the bytes `held'` after the call.
 pub record IsPicturedUntil (fault : ScriptFault) (form : Form) (db : Option (List ℕ)) (left held held' : Option (List ℕ)) : Type 0 where
   pub input : List ℕ
   pub gives : Gives left input

@@ -223,7 +223,7 @@ sign_in (short r) = []
 sign_in (sign s) = s ∷ []
 
 -- The text `new` is the text `old`, followed by pieces of a picture such as markup, numbers, ancestors and leaves. The
--- list `signs` has the items (`Sign`) that the added pieces show, in the order of the pieces.
+-- added pieces show the items (`Sign`, such as a document id or a leaf) of the list `signs`, in the same order.
 pub record Draws (old new : List ℕ) (signs : List Sign) : Type 0 where
   pub pieces : List Piece
   pub ink : new ≡ old ++ flat_map ink_of pieces

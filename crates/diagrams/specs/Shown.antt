@@ -32,8 +32,8 @@ pub data IsEscaped : List ℕ → Type 0 where
   plain : {c : ℕ} {cs : List ℕ} → is_hidden c ≡ false → is_markup c ≡ false → IsEscaped cs → IsEscaped (c ∷ cs)
   named : (c : ℕ) {cs : List ℕ} → is_markup c ≡ true → IsEscaped cs → IsEscaped (entity_of c ++ cs)
 
--- A text is safe in a picture if it has no hidden characters (`is_hidden`). In an SVG picture, a safe text also has
--- each markup character in the form of an XML entity.
+-- A text is safe in a picture if it has no hidden characters (`is_hidden`). In an SVG picture, each markup character of
+-- a safe text is written as an XML entity.
 abbrev pub IsSafe : Form → List ℕ → Type 0
 IsSafe Text cs = IsSeen cs
 IsSafe Svg cs = IsEscaped cs

@@ -13,9 +13,8 @@ none_counted = record { lines = 0; unknown = 0; first = 0 }
 abbrev pub with_line : Tally → Tally
 with_line old = record { lines = counted old.lines 1; unknown = old.unknown; first = old.first }
 
--- The counts of an input's lines after one more line, if this line cannot be output of `couch_replicate`. The field
--- `first` is the number of the first input line that cannot be output of `couch_replicate`. Blank lines are not
--- counted.
+-- The counts of input lines, after counting one more line that cannot be output of `couch_replicate`. The field `first`
+-- is the number of the first input line that cannot be output of `couch_replicate`. Blank lines are not counted.
 abbrev pub with_unknown : Tally → Tally
 with_unknown old = record {
   lines = counted old.lines 1;

@@ -33,7 +33,8 @@ sigs_of no_items = Some []
 sigs_of (item d ds) = option_and_then (λ sig. option_map (λ sigs. sig ∷ sigs) (sigs_of ds)) (sig_of (as_str d))
 
 -- The ancestry whose newest revision has the generation `start`, and whose revisions have the given signatures. The
--- result is `BadRevisions` unless `start` is a generation and there are 1 to `start` signatures.
+-- result is `BadRevisions` if `start` is not a generation, or if the list of signatures is absent. The result is also
+-- `BadRevisions` if the number of signatures is 0 or greater than `start`.
 abbrev pub numbered_from : Option ℕ → Option (List (List ℕ)) → Result (List RevId) DocFault
 numbered_from None sigs = Err faults.BadRevisions
 numbered_from (Some start) None = Err faults.BadRevisions
@@ -63,7 +64,8 @@ agrees (Some r) revs = is_head r revs
 abbrev pub matched : Option RevId → List RevId → Result (List RevId) DocFault
 matched rev revs = if agrees rev revs then Ok revs else Err faults.RevMismatch
 
--- The ancestry of a document that has no `_revisions`: only the revision `_rev`, or the error `NoRev` without `_rev`.
+-- The ancestry of a document that has no `_revisions` is the single revision `_rev`. If the document does not have
+-- `_rev` either, the result is the error `NoRev`.
 abbrev pub alone : Option RevId → Result (List RevId) DocFault
 alone None = Err faults.NoRev
 alone (Some r) = Ok (r ∷ [])

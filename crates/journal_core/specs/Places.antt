@@ -26,7 +26,7 @@ seq_of count line = drop (length (sum_head count) + 65) line
 unfoldable pub hash_at : Place → List ℕ → List ℕ
 hash_at place line = block_hash place.chain (seq_of (length place.held) line) (joined place.held)
 
--- The last line of the current block, with the right checksum for the block sequence that is in the line `line`.
+-- The last line of the current block, with the block sequence that `line` names and the right checksum.
 unfoldable pub right_end : Place → List ℕ → List ℕ
 right_end place line = sum_line (length place.held) (hash_at place line) (seq_of (length place.held) line)
 

@@ -44,8 +44,8 @@ EndsSeal old rest text new =
     (new.wrong ≡ None → EndsRight old rest text) × ((count : ℕ) → new.wrong ≡ Some count → EndsWrong old rest text count)
 
 -- The input satisfies the predicate `given`, and consists of the lines of a block. The line that ends the block is
--- written. A confirmed journal with the last hash `chain` stays confirmed (`Confirmed`) if the new block's lines and
--- the line that ends the block are appended.
+-- written. If a journal with the last hash `chain` is confirmed (`Confirmed`), it stays confirmed after the block's
+-- lines and the line that ends the block are appended.
 pub record IsSealedOn (chain seq : List ℕ) (given : List ℕ → Type 0) (held held' : Option (List ℕ)) : Type 0 where
   pub lines : List (List ℕ)
   pub gives : given (joined lines)
@@ -66,8 +66,9 @@ pub record IsUnsealedOn (count : ℕ) (given : List ℕ → Type 0) (held held' 
   pub nothing : Appends held held' []
 
 -- The result of a call that reads the lines of a block as its input, and writes the line that ends (seals) the block.
--- The input satisfies the predicate `given`. The last argument of `SealsOn` is `None` if the block was sealed. If a
--- block cannot contain a line of the input, the last argument is the number of lines before the first such line.
+-- The bytes of the call's input satisfy the predicate `given`. The last argument of `SealsOn` is `None` if the block
+-- was sealed. If the input has a line that a block cannot contain, the last argument of `SealsOn` is the number of
+-- lines before the first such line.
 abbrev pub SealsOn : List ℕ → List ℕ → (List ℕ → Type 0) → Option (List ℕ) → Option (List ℕ) → Option ℕ → Type 0
 SealsOn chain seq given held held' None = IsSealedOn chain seq given held held'
 SealsOn chain seq given held held' (Some count) = IsUnsealedOn count given held held'

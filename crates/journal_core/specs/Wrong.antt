@@ -2,7 +2,7 @@
 use Rattle.std.specs.Prelude.{ℕ, suc, Bool, if◌then◌else◌, nat_eq, List, [], ◌∷◌, length, Option, None, Some, option_map}
 use Rattle.std.specs.Option.{option_or}
 
--- The number of items before the first item of a list that passes a test, or `None` if no item passes.
+-- The index, counted from 0, of the first item of a list that passes a test, or `None` if no item passes.
 abbrev pub first_index : {A : Type 0} → (A → Bool) → List A → Option ℕ
 first_index test [] = None
 first_index test (x ∷ xs) = if test x then Some 0 else option_map suc (first_index test xs)

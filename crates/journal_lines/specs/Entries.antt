@@ -41,7 +41,7 @@ abbrev pub state_or_other : List ℕ → Option (List ℕ) → EntryView
 state_or_other line (Some rest) = state_or_wrong (leaves_in rest)
 state_or_other line None = lacks_or_leaf line (after (codes "lacks ") line)
 
--- The content of a journal line. A line that begins with `state ` or `lacks ` lists leaves or is `wrong`. A line that
--- does not begin with `state ` or `lacks ` has a document or is `wrong`.
+-- The content of a journal line. A line that begins with `state` or `lacks`, followed by a blank, either lists leaves
+-- or is `wrong`. A line that does not begin with `state ` or `lacks ` has a document or is `wrong`.
 abbrev pub entry_in : List ℕ → EntryView
 entry_in line = state_or_other line (after (codes "state ") line)

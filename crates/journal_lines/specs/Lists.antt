@@ -63,7 +63,7 @@ abbrev pub token : List ℕ → Option (List ℕ)
 token text = if is_token text then Some text else None
 
 -- The leaves of a journal line, given the line's sequence and the text of the line's JSON list. The result is `None` if
--- the sequence or the text is absent, or if the text is not a list of an id and revisions.
+-- the line's sequence or the list's text is absent, or if this text is not a list of an id and revisions.
 abbrev pub leaves_at : Option (List ℕ) → Option (List ℕ) → Option LeavesView
 leaves_at None list = None
 leaves_at (Some seq) None = None
@@ -73,7 +73,8 @@ abbrev pub leaves_by : Option (List ℕ × List ℕ) → Option LeavesView
 leaves_by None = None
 leaves_by (Some parts) = leaves_at (option_and_then token (text_in parts.0)) (text_in parts.1)
 
--- The leaves that a journal line names, given the rest of the line after the kind (`state` or `lacks`) and a blank.
+-- The leaves that a journal line names. The argument `rest` is the part of the line after the line's beginning, which
+-- is `state` or `lacks` and a blank.
 abbrev pub leaves_in : List ℕ → Option LeavesView
 leaves_in rest = leaves_by (cut_at_blank rest)
 

@@ -11,7 +11,7 @@ use Rattle.json.specs.Find.{get, as_str, as_number, as_array}
 abbrev pub text_at : List ℕ → Json → Option (List ℕ)
 text_at name j = option_and_then as_str (get name j)
 
--- The items of a JSON object's member, if it is a list.
+-- The items of the member `name` of a JSON object, if this member is a list.
 abbrev pub items_at : List ℕ → Json → Option Items
 items_at name j = option_and_then as_array (get name j)
 

@@ -28,8 +28,9 @@ pub record HasRun {S : Type 0} (steps : Steps S) (start : S) (held : Option (Lis
   pub runs : Runs steps start lines text state
   pub written : Appends held held' text
 
--- A task has run over the complete input, and the writer has the task's text. The predicate `given` is true of the
--- input. The arguments `held` and `held'` are the bytes that the writer had accepted before and after the run.
+-- A task has run over the complete input, and the writer has the task's text. The input that the task has read
+-- satisfies the predicate `given`. The arguments `held` and `held'` are the bytes that the writer had accepted before
+-- and after the run.
 pub record IsDoneOn {S : Type 0} (steps ends : Steps S) (start : S) (given : List ℕ → Type 0) (held : Option (List ℕ)) (state : S)
     (held' : Option (List ℕ)) : Type 0 where
   pub input : List ℕ
@@ -95,13 +96,13 @@ HasStopped steps ends start ended taken taken' held held' =
 
 -- ---- output determined by lines
 
--- The type of statements about the lines that a task has read, the text that the task has appended, and the task's
--- state.
+-- The type of a statement about three values: the lines that a task has read, the text that the task has appended, and
+-- the task's state.
 abbrev pub Kept : Type 0 → Type 1
 Kept S = List (List ℕ) → List ℕ → S → Type 0
 
--- The type of statements about a task at the input's end: about the input's lines, the bytes after the last line end,
--- the task's text, and the task's state.
+-- The type of a statement about a task that has read its complete input. The statement is about four values: the
+-- input's lines, the bytes after the last line end, the task's text, and the task's state.
 abbrev pub Ended : Type 0 → Type 1
 Ended S = List (List ℕ) → List ℕ → List ℕ → S → Type 0
 
@@ -123,8 +124,8 @@ HasPrinted {S} ended input text state =
     (lines : List (List ℕ)) × (rest : List ℕ) × AreLines input lines rest × ended lines rest text state
 
 -- If an error stopped a task, its output `text` is a prefix of the output for the input's first n lines, for a number
--- n. If the task had read the complete input (the statement `all`), `text` may instead be a prefix of the output for
--- the complete input.
+-- n. If the task had read the complete input (the statement `all`), its output `text` may also be any prefix of the
+-- output for the complete input.
 abbrev pub HasPrintedPart : {S : Type 0} → Kept S → Ended S → Type 0 → List ℕ → List ℕ → Type 0
 HasPrintedPart {S} kept ended all input text =
     ((lines : List (List ℕ)) × (rest back : List ℕ) × (state : S) × (input ≡ joined lines ++ rest)

@@ -52,8 +52,8 @@ AreSeated None seats = seats ≡ []
 AreSeated (Some b) seats = All (WorksAt b) seats
 
 -- If the run has a progress board, each seat in the list `seats` is a worker's seat of this board. If the run has a
--- progress board, the length of `seats` plus `out` (the number of seats in use) is at least the number of workers. If
--- the run has no progress board, the list `seats` is empty.
+-- progress board, the number of seats in the list, plus the number `out` of seats in use, is at least the number of
+-- workers. If the run has no progress board, the list `seats` is empty.
 abbrev pub AreSeats : Option Board → ℕ → ℕ → List BoardSeat → Type 0
 AreSeats None out workers seats = seats ≡ []
 AreSeats (Some b) out workers seats = (workers ≤ length seats + out) × All (WorksAt b) seats
@@ -63,9 +63,9 @@ abbrev pub AreBack : Option Board → List BoardSeat → List BoardSeat → Type
 AreBack None given now = (given ≡ []) × (now ≡ [])
 AreBack (Some b) given now = AreRisen b given now
 
--- If the run has a progress board, the settled counters of the seats `now` exceed those of the seats `given` by n
--- documents in total. If the run has a progress board and no writer was stopped, the read counters of `now` exceed
--- those of `given` by n documents in total.
+-- If the run has a progress board, the settled counters of the seats in `now` are, in total, n higher than those of the
+-- seats in `given`. If the run has a progress board and no writer was stopped, the read counters of `now` are also, in
+-- total, n higher than those of `given`.
 abbrev pub HaveShown : Option Board → ℕ → Option Halt → List BoardSeat → List BoardSeat → Type 0
 HaveShown None n stopped given now = Unit {0}
 HaveShown (Some b) n stopped given now =
@@ -97,18 +97,18 @@ abbrev pub HasRoom : Option Board → ℕ → Option BoardSeat → Type 0
 HasRoom (Some b) n (Some s) = s.settled + n ≤ s.read
 HasRoom board n seat = Unit {0}
 
--- A writer's seat changes from s to t when z - a documents, for two counts z and a, are added to the seat's settled
--- counter. If the run has no progress board, the optional seats s and t are equal.
+-- A writer's seat changes from s to t: its settled counter grows by z - a documents. The numbers z and a are two counts
+-- of documents. If the run has no progress board, the optional seats s and t are equal.
 abbrev pub HasSettled : Option Board → ℕ → ℕ → Option BoardSeat → Option BoardSeat → Type 0
 HasSettled None a z s t = t ≡ s
 HasSettled (Some b) a z (Some s) (Some t) =
     WorksAt b t × (t.number ≡ s.number) × (t.read ≡ s.read) × (t.settled + a ≡ s.settled + z)
 HasSettled (Some b) a z s t = ⊥
 
--- A writer's seat changes from s to t when z - a documents, for two counts z and a, are added to the seat's settled
--- counter. The read counter of the changed seat t is at least the read counter of the original seat s. If the writer
--- was not stopped, z - a documents, for the two counts z and a, were also added to the seat's read counter. If the run
--- has no progress board, the optional seats s and t are equal.
+-- A writer's seat changes from s to t: its settled counter grows by z - a documents. The numbers z and a are two counts
+-- of documents. The read counter of the changed seat t is at least the read counter of the original seat s. If the
+-- writer was not stopped, z - a documents, for the two counts z and a, were also added to the seat's read counter. If
+-- the run has no progress board, the optional seats s and t are equal.
 abbrev pub HasWritten : Option Board → ℕ → ℕ → Option Halt → Option BoardSeat → Option BoardSeat → Type 0
 HasWritten None a z stopped s t = t ≡ s
 HasWritten (Some b) a z stopped (Some s) (Some t) =

@@ -48,9 +48,9 @@ fault_of halts.BoardFull = faults.BoardFull
 fault_of halts.Memory = faults.Memory
 fault_of halts.Lost = faults.Memory
 
--- The reasons for which a worker may halt. A worker halts with `Stopped` only if the gate, a callback, may stop workers
--- at the stage for which the worker called the gate. A worker halts with `BoardFull` only if `may_fill` is true. If a
--- call on the target failed, the error satisfies `IsStepFault`.
+-- The reasons for which a worker may halt. A worker halts with `Stopped` at a stage only if the gate (a callback) may
+-- stop workers at this stage. A worker halts with `BoardFull` only if `may_fill` is true. If a call on the target
+-- failed, the error satisfies `IsStepFault`.
 abbrev pub AllowsOn : Type 0 → (Place → Type 0) → Halt → Type 0
 AllowsOn may_fill may_stop (halts.Stopped place) = may_stop place
 AllowsOn may_fill may_stop (halts.Refused fault) = IsStepFault fault

@@ -25,7 +25,7 @@ FetchedKnows w p t =
 abbrev pub WrittenKnows : ParcelView → ℕ → WrittenAll → Type 0
 WrittenKnows p amount t = t.stopped ≡ None → (amount ≡ amounts p.got) × (t.got ≡ length p.got)
 
--- The reason h why a worker stopped early is one of the optional reasons a and b, or `CountFull`.
+-- A worker's reason h for stopping early is the optional reason a, the optional reason b, or `CountFull`.
 abbrev pub IsOneOf : Option Halt → Option Halt → Halt → Type 0
 IsOneOf a b h = (a ≡ Some h) ⊎ ((b ≡ Some h) ⊎ (h ≡ CountFull))
 
@@ -41,8 +41,8 @@ module _ {S L : Type 0} where
   Tells e =
       FetchedKnows (view e.windows) (view e.parcels) e.fetched × WrittenKnows (view e.parcels) e.all.amount e.written
 
-  -- The reader, a fetcher or a writer halted only for a reason that `AllowsOn` lists. Only a writer may halt because a
-  -- count on the progress board would exceed its maximum (`BoardFull`).
+  -- Each worker (reader, fetcher or writer) halted only for a reason that `AllowsOn` lists. Only a writer may halt
+  -- because a count on the progress board would exceed its maximum (`BoardFull`).
   abbrev pub StopsWhere : Type 0 → (Place → Type 0) → Ended S L → Type 0
   StopsWhere may_fill may_stop e =
       IfSome e.read (Allows may_stop) × IfSome e.fetched.stopped (Allows may_stop)

@@ -1,5 +1,5 @@
--- Defines statements about a run's target, which a lock protects during the run, as specified in docs/PROFILE.md, "The
--- pool".
+-- Defines statements about a run's target, as specified in docs/PROFILE.md, "The pool". A lock protects the target
+-- during a run.
 use Rattle.std.specs.Prelude.{◌≡◌, ℕ, Bool, List, Option, Some}
 use Rattle.rev_tree.specs.declared.origin.SessionId.{SessionId}
 use Rattle.doc_json.specs.Document.{Document}
@@ -29,8 +29,8 @@ module _ {F : Type 0} (refuses : F → Document → Bool) where
   GrownPeer source chosen run given now = (now.0 ≡ given.0) × IsGrown (refuses given.0) source chosen run given.1 now.1
 
   -- States what holds for the target while a run is in progress. During a run, only calls of the run have changed the
-  -- given peer, and the target has the run's session. The session has read `total` documents, the session's windows are
-  -- pages of the source, and the plan allows `more` windows.
+  -- given peer, and the target has the run's session. The session has read `total` documents, and the session's windows
+  -- are pages of the source. If the plan limits the number of windows, the plan allows `more` further windows.
   abbrev pub TargetKeeps : DatabaseValue → Plan → Option ((F × PeerValue) × SessionId) → SessionId → ℕ → Option ℕ
       → F × PeerValue → Type 0
   TargetKeeps source plan given session total more now =

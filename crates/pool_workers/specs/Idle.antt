@@ -21,8 +21,8 @@ pub record IsIdleFetcher {S : Type 0} (channels : Channels S) (may_stop : Place 
   pub knows : FetcherKnows [] f
   pub halted : IfSome f.stopped (Allows may_stop)
 
--- The writer w may use the channel of parcels, and has no parcel in progress. If w was stopped, `AllowsOn` lists the
--- reason. If the run has a progress board, w has a seat of this board.
+-- The writer w may use the channel of parcels, and has no parcel in progress. If the writer w was stopped, `AllowsOn`
+-- lists the reason why it was stopped. If the run has a progress board, w has a seat of this board.
 pub record IsIdleWriter {S L : Type 0} (channels : Channels S) (board : Option Board) (may_stop : Place → Type 0)
     (w : Writer S L) : Type 0 where
   pub parcels : IsSeatAt (sends_on channels.to_writers) w.parcels

@@ -21,14 +21,16 @@ AllowsMore None n more = more ≡ None
 AllowsMore (Some stop_after) n None = ⊥
 AllowsMore (Some stop_after) n (Some more) = n + more ≡ stop_after
 
--- If the number `more` of further windows is limited, `less` is `more` minus one.
+-- The optional number `less` is one less than the optional number `more` of further windows, or `None` if `more` is
+-- `None`.
 abbrev pub IsOneLess : Option ℕ → Option ℕ → Type 0
 IsOneLess None less = less ≡ None
 IsOneLess (Some more) None = ⊥
 IsOneLess (Some more) (Some less) = more ≡ less + 1
 
--- Each window of a list is the page of the source's selected feed that begins at the window's lower bound. If the plan
--- limits the number of windows, the run may store `more` windows in addition to the windows in the list.
+-- Each window w of a list is a page of the source's selected feed, and this page begins at w's lower bound. If the plan
+-- limits the number of windows, `more` is the number of windows that the run may store in addition to the list's
+-- windows.
 abbrev pub HasPages : DatabaseValue → Plan → Option ℕ → List WindowValue → Type 0
 HasPages source plan more windows =
     ((w : WindowValue) → Among w windows → IsNext source plan w) × AllowsMore plan.stop_after (length windows) more

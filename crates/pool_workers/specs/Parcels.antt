@@ -17,7 +17,7 @@ IdleIsEmpty views =
     (port : ℕ) (v : ParcelView) → get_elem? views port ≡ some v → v.parts ≡ 0 → (v.sent ≡ []) × (v.got ≡ [])
 
 module _ {S : Type 0} where
-  -- The parcels in a list of messages, each as a pair of the parcel's number and its number of documents.
+  -- The parcels in a list of messages. Each parcel is given as a pair: its number, and the count of its documents.
   abbrev pub parcels : List (ParcelMessage S) → List (ℕ × ℕ)
   parcels [] = []
   parcels (Parcel number parcel ∷ xs) = (number, length parcel.docs) ∷ parcels xs
@@ -38,7 +38,7 @@ module _ {S : Type 0} where
       ≡ total (λ (v : ParcelView). weigh h v.got) views + weigh h (parcels items))
       × IdleIsEmpty views
 
-  -- What a thread knows if the thread has the complete pass (the ghost right to use a channel) of the channel of
-  -- parcels. The sent parcels are exactly the received parcels and the parcels that are still in the channel.
+  -- What a thread knows if it has the complete pass of the channel of parcels (the ghost right to use this channel).
+  -- The sent parcels are exactly the received parcels and the parcels that are still in the channel.
   abbrev pub Accounts : ParcelView → List (ParcelMessage S) → Type 0
   Accounts v items = (h : ℕ → ℕ → ℕ) → weigh h v.sent ≡ weigh h v.got + weigh h (parcels items)

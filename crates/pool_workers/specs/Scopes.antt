@@ -1,5 +1,5 @@
--- This file defines what the threads of a run have at their start, and what is known after all threads have ended, as
--- specified in docs/PROFILE.md, "The pool".
+-- Defines which rights, counts and seats the threads of a run have at their start, as specified in docs/PROFILE.md,
+-- "The pool". Also defines what the caller's thread knows after all threads have ended.
 use Rattle.std.specs.Prelude.{◌≡◌, ◌+◌, ◌-◌, ◌<◌, ◌≤◌, ◌++◌, ℕ, List, [], length, Option, IfSome, option_to_list, vec_len, vec_capacity}
 use Rattle.crossbeam_channel.specs.Claims.{view, IsSeatAt}
 use Rattle.crossbeam_channel.specs.Ends.{sends_on}
@@ -19,12 +19,12 @@ use Rattle.pool_workers.specs.Idle.{fetchers_in, writers_in, seat_of}
 use Rattle.pool_workers.specs.Parcels.{parcel_view}
 use Rattle.pool_workers.specs.Windows.{window_view}
 
--- The channel rights, ghost counts and seats that the caller's thread has before the thread starts the workers. For
--- each channel, the caller's thread has all 1,024 parts of the pass (the ghost right to use the channel), and both
--- channels are unused. Before the workers start, the caller's thread has all parts of a ghost count of settled
--- documents, and the ghost count is 0. The caller's thread has an empty list `counts`, with capacity for one number
--- from each fetcher. If the run has a progress board, the caller's thread has a seat (an access token to the progress
--- board) for each writer.
+-- What the caller's thread has before it starts the workers: rights to use channels, ghost counts and seats. The ghost
+-- right to use a channel has 1,024 parts. The caller's thread has all parts of the right to use each channel, and the
+-- channels are unused. The ghost count of settled documents has one part for each writer. Before the workers start, the
+-- caller's thread has all these parts, and the ghost count is 0. The caller's thread has an empty list `counts`, with
+-- capacity for one number from each fetcher. If the run has a progress board, the caller's thread has a seat (an access
+-- token to the progress board) for each writer.
 pub record IsReady {S L : Type 0} (channels : Channels S) (board : Option Board) (workers : ℕ) (o : Owned S L) : Type 0
   where
     pub counts : (o.counts.items ≡ []) × (workers ≤ vec_capacity o.counts)
@@ -35,9 +35,9 @@ pub record IsReady {S L : Type 0} (channels : Channels S) (board : Option Board)
 
 -- The channel rights, ghost counts, seats and results that the caller's thread has after the workers have ended. The
 -- caller's thread has the seats (access tokens) of the progress board again. If all workers were started, the caller's
--- thread has, for each channel, all 1,024 parts of the pass (the ghost right to use the channel). If all workers were
--- started, the caller's thread has collected all parts of the ghost count of settled documents. If all workers were
--- started, the caller's thread knows the workers' counts, and the reasons why workers halted.
+-- thread has the complete ghost right to use each channel: all 1,024 parts. If all workers were started, the caller's
+-- thread also has all parts of the count of settled documents, a ghost value. If all workers were started, the caller's
+-- thread knows the workers' counts, and the reasons why workers halted.
 pub record HaveEnded {S L : Type 0} (channels : Channels S) (board : Option Board) (may_stop : Place → Type 0)
     (workers : ℕ) (given : List BoardSeat) (ended : Option (Ended S L)) (seats : List BoardSeat) : Type 0 where
   pub window_seat : IfSome ended (λ e. IsSeatAt (sends_on channels.to_fetchers) e.windows)
@@ -48,9 +48,9 @@ pub record HaveEnded {S L : Type 0} (channels : Channels S) (board : Option Boar
   pub back : AreBack board given seats
   pub shown : IfSome ended (λ e. HaveShown board e.all.amount e.written.stopped given seats)
 
--- What the caller's thread has, and what it knows, while workers run. The running workers have `fetchers` fetchers,
--- `writers` writers, and the seats `held`. The value r is what no running worker has, with the results of the workers
--- that have ended.
+-- The state of the caller's thread while workers run. The number of running fetchers is `fetchers`, the number of
+-- running writers is `writers`, and the running workers have the seats `held`. The value r has the rights, counts and
+-- seats that no running worker has, and the results of the workers that have ended.
 pub record HasRest {S L : Type 0} (channels : Channels S) (board : Option Board) (may_stop : Place → Type 0)
     (workers : ℕ) (given : List BoardSeat) (fetchers writers : ℕ) (held : List BoardSeat) (r : Rest S L) : Type 0 where
   pub window_seat : IsSeatAt (sends_on channels.to_fetchers) r.windows
@@ -65,8 +65,8 @@ pub record HasRest {S L : Type 0} (channels : Channels S) (board : Option Board)
   pub shown : HaveShown board r.all.amount r.written.stopped given (r.seats.items ++ held)
   pub room : length (r.seats.items ++ held) ≤ vec_capacity r.seats
 
--- What the caller's thread has, and what it knows, after it has started the workers whose numbers are below `number`, if
--- all these workers still run. No window has been read, and no document has been settled.
+-- What the caller's thread has, and what it knows, after it has started the workers whose numbers are below `number`,
+-- if all these workers still run. No window has been read, and no document has been settled.
 pub record IsStarting {S L : Type 0} (channels : Channels S) (board : Option Board) (may_stop : Place → Type 0)
     (roles : Roles) (given : List BoardSeat) (number fetchers writers : ℕ) (held : List BoardSeat) (r : Rest S L)
     : Type 0 where

@@ -39,7 +39,8 @@ module _ {S : Type 0} where
       ≡ once_below x (total (λ (v : WindowView). v.count) views))
       × KeepsRole views
 
-  -- The fact that a thread knows if no other thread has a right to use the channel of windows. If n windows were sent,
-  -- the windows that were taken or are still in the channel have exactly the numbers below n, each once.
+  -- A fact about the channel of windows. A thread knows this fact if no other thread has a right to use the channel. If
+  -- n windows were sent, the windows that were taken or are still in the channel have exactly the numbers below n, each
+  -- once.
   abbrev pub Covers : WindowView → List (WindowMessage S) → Type 0
   Covers v items = (x : ℕ) → times x v.taken + times x (numbers items) ≡ once_below x v.count

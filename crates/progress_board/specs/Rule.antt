@@ -18,8 +18,8 @@ seat_view deals works number reads settles =
 abbrev pub dealer : ℕ → ℕ → SeatView
 dealer k n = seat_view true false n (replicate k 0) (replicate k 0)
 
--- The state of a board's dealer (the value that creates the board's seats) just after the dealer has created a worker's
--- seat.
+-- The state of a board's dealer just after the dealer has created a worker's seat. The dealer is the value that creates
+-- the board's seats.
 abbrev pub dealt : SeatView → SeatView
 dealt v = seat_view v.deals v.works (v.number + 1) v.reads v.settles
 
@@ -40,19 +40,20 @@ abbrev pub added_settled : SeatView → ℕ → SeatView
 added_settled v n =
     seat_view v.deals v.works v.number v.reads (slice_set v.settles v.number (slice_index v.settles v.number + n))
 
--- A seat (an access token for a progress board) changes from v to w by loading the value n of worker i's read counter.
--- Before a seat loads the value n of a read counter, the seat's lower bound of the counter is at most n. After the
--- load, this lower bound is n. If the loaded counter belongs to the seat's own worker, the seat's lower bound is equal
--- to n already before the load.
+-- When a seat loads the value n of worker i's read counter, the state of the seat changes from v to w. Before a seat
+-- loads the value n of a read counter, the seat's lower bound of the counter is at most n. After the seat has loaded
+-- the read counter's value n, the seat's lower bound of the counter is n. If the loaded counter belongs to the seat's
+-- own worker, the seat's lower bound is equal to n already before the load.
 abbrev pub SeesRead : SeatView → ℕ → ℕ → SeatView → Type 0
 SeesRead v i n w =
     (w ≡ seat_view v.deals v.works v.number (slice_set v.reads i n) v.settles)
     × (slice_index v.reads i ≤ n) × (n ≤ most) × (v.works ≡ true → v.number ≡ i → n ≡ slice_index v.reads i)
 
--- A seat (an access token for a progress board) changes from v to w by loading the value n of worker i's settled
--- counter. Before a seat loads the value n of a settled counter, the seat's lower bound of the counter is at most n.
--- After the load, this lower bound is n, and the seat's lower bound of the same worker's read counter is at least n. If
--- the loaded counter belongs to the seat's own worker, the seat's lower bound is equal to n already before the load.
+-- When a seat loads the value n of worker i's settled counter, the state of the seat changes from v to w. Before a seat
+-- loads the value n of a settled counter, the seat's lower bound of the counter is at most n. After the seat has loaded
+-- the settled counter's value n, the seat's lower bound of the counter is n. The seat's lower bound of the same
+-- worker's read counter is then at least n. If the loaded counter belongs to the seat's own worker, the seat's lower
+-- bound is equal to n already before the load.
 abbrev pub SeesSettled : SeatView → ℕ → ℕ → SeatView → Type 0
 SeesSettled v i n w =
     (w ≡ seat_view v.deals v.works v.number (slice_set v.reads i (max (slice_index v.reads i) n))
@@ -78,8 +79,8 @@ abbrev pub InOrder : ℕ → List ℕ → Type 0
 InOrder k words = (j : ℕ) → j < k → (slice_index words (k + j) ≤ slice_index words j) × (slice_index words j ≤ most)
 
 -- The invariant of a progress board. No worker's settled counter exceeds the worker's read counter. What each seat (an
--- access token for the board) stores about the counters is true. The numbers of the workers' seats are distinct, and
--- are less than the number that the dealer (the creator of the seats) gives next. A board has at most one dealer (the
+-- access token for the board) stores about the counters is true. The numbers of the workers' seats are distinct. Each
+-- of them is less than the number that a dealer gives to the next worker's seat. A board has at most one dealer (the
 -- value that creates the board's seats).
 pub record Kept (k : ℕ) (words : List ℕ) (views : List SeatView) : Type 0 where
   pub size : length words ≡ k + k

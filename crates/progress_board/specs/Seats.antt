@@ -13,7 +13,7 @@ use Rattle.progress_board.specs.Rule.{most}
 abbrev pub CameWith : Board → BoardSeat → Type 0
 CameWith b s = (s.place.table_id ≡ b.table.shared.table_id) × (length s.place.me.0.reads ≡ b.workers)
 
--- ---- the sums of a seat's lower bounds
+-- ---- the sums of a seat's lower bounds of all read counters, and of all settled counters
 
 abbrev pub seen_read : BoardSeat → ℕ
 seen_read s = sum s.place.me.0.reads
@@ -64,8 +64,8 @@ new_fault workers viewers = if are_seats workers viewers then faults.Memory else
 -- ---- new seats
 
 -- The seat s (an access token for the table `table`) is new, and has index i in the list of the table's seats. The
--- table `table` has the counters of k workers. If i is less than the number n of workers' seats, the seat belongs to
--- worker i, and otherwise to a viewer.
+-- table `table` has the counters of k workers. The seat s belongs to worker i if i is less than the number n of
+-- workers' seats, and otherwise to a viewer.
 abbrev pub IsSeat : TableId → ℕ → ℕ → ℕ → BoardSeat → Type 0
 IsSeat table k n i s =
     (s.place.table_id ≡ table) × (s.works ≡ nat_lt i n) × (i < n → s.number ≡ i) × (s.read ≡ 0) × (s.settled ≡ 0)
@@ -76,7 +76,7 @@ SeatsAre table k n seats = (i : ℕ) (d : BoardSeat) → i < length seats → Is
 
 -- The seat s is seat number i of a new board b. The first seats of a new board are the workers' seats, ordered by the
 -- workers' numbers, and the viewers' seats follow. On a new board, no worker has added documents to its counters, and
--- no seat (access to the board's counters) has loaded the value of a counter.
+-- no seat has loaded a counter's value.
 pub record IsNew (b : Board) (i : ℕ) (s : BoardSeat) : Type 0 where
   pub came : CameWith b s
   pub works : s.works ≡ nat_lt i b.workers

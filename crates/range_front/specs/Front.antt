@@ -85,9 +85,9 @@ abbrev pub above_low_water : List FrontWindow → List FrontWindow
 above_low_water [] = []
 above_low_water (w ∷ ws) = if w.done then above_low_water ws else w ∷ ws
 
--- The number of maximal groups of adjacent done windows that begin in a list of windows. If `before` is true, a done
--- window directly precedes the list. Done windows at the start of the list then continue the group of the preceding
--- window.
+-- The number of maximal groups of adjacent done windows in a list, without a group that begins before the list. If
+-- `before` is true, a done window directly precedes the list, and done windows at the start of the list continue this
+-- window's group.
 abbrev pub run_count : Bool → List FrontWindow → ℕ
 run_count before [] = 0
 run_count before (w ∷ ws) = (if w.done then (if before then 0 else 1) else 0) + run_count w.done ws
@@ -102,7 +102,7 @@ range_count f = run_count false (above_low_water f.windows)
 abbrev pub no_windows : ℕ → FrontValue
 no_windows start = record { start = start; windows = [] }
 
--- Front f after adding a window that reaches from the end of f to `hi`. The new window is not done.
+-- Front f after adding a window that is not done, and that reaches from the end of f to `hi`.
 abbrev pub appended : FrontValue → ℕ → FrontValue
 appended f hi = record f { windows = f.windows ++ record { hi = hi; done = false } ∷ [] }
 

@@ -47,11 +47,11 @@ start-le-low_water f front = rw low_in-is (from-le-low f.start f.windows front.r
 pub low_water-le-end_of : (f : FrontValue) → IsFront f → low_water f ≤ end_of f
 low_water-le-end_of f front = rw low_in-is (low-le-end f.start f.windows front.rises)
 
--- The low water of a front (consecutive windows from the sequence `start` on) is `start`, or the end of a done window.
+-- A front's low water is the sequence `start` at which the front begins, or the end of a done window.
 pub low_water-is_end : (f : FrontValue) → (low_water f ≡ f.start) ⊎ ((lo : ℕ) × (is_done f lo (low_water f) ≡ true))
 low_water-is_end f = rw low_in-is (low-is-end f.start f.windows)
 
--- A sequence above the front's start and at or below the front's low water is in a done window.
+-- If a sequence is greater than a front's start, and not greater than the front's low water, it is in a done window.
 pub reached : (f : FrontValue) (q : ℕ) → IsFront f → f.start < q → q ≤ low_water f → (lo : ℕ) × (hi : ℕ) × (lo < q) × (q ≤ hi) × (is_done f lo hi ≡ true)
 reached f q front above under = reached-in f.start f.windows q front.rises above (rw low_in-is at under)
 

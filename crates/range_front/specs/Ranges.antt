@@ -11,7 +11,8 @@ abbrev pub Rising : ℕ → List ℕ → Type 0
 Rising from [] = Unit {0}
 Rising from (e ∷ es) = (from < e) × Rising e es
 
--- Whether (lo, hi] is one of the adjacent windows with the ends `es`. The first window begins at `from`.
+-- Whether (lo, hi] is one of the windows in a list of adjacent windows. The list `es` has the end of each window, and
+-- the first window begins at `from`.
 abbrev pub has_window : ℕ → List ℕ → ℕ → ℕ → Bool
 has_window from [] lo hi = false
 has_window from (e ∷ es) lo hi = ((from == lo) && (e == hi)) || has_window e es lo hi

@@ -88,7 +88,7 @@ low-is-end from (w ∷ ws) =
     ])
     (λ e. inl refl)
 
--- A sequence above the start and at or below the low water is in a done window.
+-- If a sequence is greater than the start of the windows, and not greater than their low water, it is in a done window.
 pub reached-in : (from : ℕ) (ws : List FrontWindow) (q : ℕ) → Rises from ws → from < q → q ≤ low_in from ws → (lo : ℕ) × (hi : ℕ) × (lo < q) × (q ≤ hi) × (done_in from ws lo hi ≡ true)
 reached-in from [] q h a l = absurd (omega arith)
 reached-in from (w ∷ ws) q h a l =

@@ -25,7 +25,8 @@ use Rattle.read_commands.specs.declared.log.Side.TheVariants.{Source, Target}
 
 -- ---- its parameters
 
--- The parameters of `log`, which prints the log on one side of a replication, for a selection of documents.
+-- The parameters of `log`, which prints the log that one side has of a replication. The parameters may include the
+-- replication's selection of documents.
 pub record LogAsk : Type 0 where
   pub source : List ℕ
   pub target : List ℕ

@@ -10,8 +10,8 @@ use Rattle.relay_responses.specs.Read.{items_at, each_item, with_first}
 
 -- ---- named leaves
 
--- The members `found`, followed by the members of a JSON object. In the resulting list, each name occurs once, and has
--- the value of the last member with this name.
+-- The members `found`, followed by the members of a JSON object. The function `last_members` returns each name once,
+-- with the value of the last member that has this name.
 abbrev pub last_members : List (Text × Json) → Members → List (Text × Json)
 last_members found no_members = found
 last_members found (member k j ms) = last_members (insert_entry bytes_eq found k j) ms
@@ -19,8 +19,8 @@ last_members found (member k j ms) = last_members (insert_entry bytes_eq found k
 abbrev pub doc_of : Text → List Text → DocView
 doc_of id revs = (id, revs)
 
--- The document and the missing leaves that one member of a `_revs_diff` response names. The name of the member is the
--- document's id, and the list `missing` in the member's value has the leaves.
+-- The document and the missing leaves that one member of a `_revs_diff` response names. The name of a `_revs_diff`
+-- member is the document's id, and the list `missing` in the member's value has the missing leaves.
 abbrev pub missing_at : Text × Json → Option DocView
 missing_at m = option_map (doc_of m.0) (option_and_then (each_item as_str) (items_at (codes "missing") m.1))
 

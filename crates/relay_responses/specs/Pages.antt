@@ -32,8 +32,8 @@ rows_in j = option_and_then (each_item row_in) (items_at (codes "results") j)
 
 -- ---- rows of one document
 
--- A document's known leaves `revs`, followed by those leaves of a second list that are not in `revs`. The leaves that
--- are added keep their order, and a leaf that the second list repeats is added once.
+-- A document's known leaves `revs`, followed by those leaves of a second list that are not in `revs`. The added leaves
+-- keep the order of the second list. A leaf that occurs more than once in the second list is added at most once.
 abbrev pub add_revs : List Text → List Text → List Text
 add_revs revs [] = revs
 add_revs revs (r ∷ rs) = add_revs (if list_any (bytes_eq r) revs then revs else revs ++ r ∷ []) rs

@@ -14,8 +14,8 @@ use Rattle.rev_tree.specs.declared.fault.Contradiction.{Contradiction}
 
 -- The result of comparing a document at the source with the document at the target. The fields are the number of the
 -- source's leaves, the leaves that the target's tree lacks, an optional contradiction, and the leaves whose known
--- contents differ. The contents of a leaf are compared only if both trees have a content of the leaf. In the ancestries
--- of the missing leaves, the contradiction is at the first revision with different parents at source and target.
+-- contents differ. The contents of a leaf are compared only if both trees have a content of the leaf. The contradiction
+-- names the first revision, in the ancestries of the missing leaves, whose parents at source and target differ.
 pub record ComparisonValue : Type 0 where
   pub leaves : ℕ
   pub missing : List RevId

@@ -1,6 +1,6 @@
--- Defines when two peers, the messages between them and backups are consistent, as specified in docs/PROFILE.md,
--- "Worlds" and "Tied windows and messages". In a consistent world, each window in transit that has the source's current
--- life is consistent with the source's database.
+-- Defines when two peers, the backups, and the messages in transit between the peers are consistent, as specified in
+-- docs/PROFILE.md, "Worlds" and "Tied windows and messages". In a consistent world, each window in transit that has the
+-- source's current life is consistent with the source's database.
 use Rattle.std.specs.Prelude.{◌≡◌, ℕ, ◌≤◌, List, [], Bool, false, Some, None, Result, slice_get}
 use Rattle.doc_json.specs.Document.{Document}
 use Rattle.doc_json.specs.Chosen.{Choice}
@@ -46,8 +46,8 @@ pub record OwnParcel (w : WorldValue) (place : ℕ) (p : ParcelValue) : Type 0 w
 pub record Tied (w : WorldValue) : Type 0 where
   -- The target is consistent with the source and with each backup of the source.
   pub peers : IsTiedWith w.backups w.source w.target w.chosen
-  -- Each window and each log in transit has a life (a number that each restore raises). This life is at most the life
-  -- of the source's database.
+  -- Each restore of a database raises the database's life. The life of each window in transit, and of each log in
+  -- transit, is at most the life of the source's database.
   pub window_lives : (x : WindowValue) → Among x w.bag.windows → x.life ≤ w.source.db.life
   pub log_lives : (g : ℕ × List EntryValue) → Among g w.bag.logs → g.0 ≤ w.source.db.life
   -- If a window in transit has the same life as the source's database, the window is consistent with this database. If
@@ -71,9 +71,9 @@ pub record HoldNone (source target : PeerValue) (chosen : Choice) : Type 0 where
 
 -- ---- guarantees of tied worlds
 
--- Settling a parcel in transit never returns `Uncovered` if the session has the parcel's window and this window has the
--- source's current life. A window has the source's current life if the source's database was not restored after it
--- produced the window, because each restore raises the life.
+-- Settling a parcel in transit never returns `Uncovered` if two conditions hold: the session has the parcel's window,
+-- and this window's life is the source's current life. A window has the source's current life if the source's database
+-- was not restored after it produced the window, because each restore raises the life.
 abbrev pub NeverUncovered : (Document → Bool) → WorldValue → Type 0
 NeverUncovered refuses w =
     (p : ℕ × ParcelValue) → Among p w.bag.parcels
@@ -82,10 +82,10 @@ NeverUncovered refuses w =
     → (result : Result Settled TargetFault) (now : PeerValue) → SettleGives refuses w.target s.id p.1 result now
     → is_uncovered result ≡ false
 
--- What is guaranteed if the peers, the messages between them and the source's backups are consistent (`Tied`). The
--- target of consistent peers covers the source's feed up to the common checkpoint, and up to each sequence that both
--- peers' logs claim. An audit of consistent peers finds no uncovered leaf. The clause `covered` says when settling a
--- parcel never returns `Uncovered`.
+-- What is guaranteed if the peers, the messages between them and the source's backups are consistent (`Tied`). If the
+-- peers are consistent, the target covers the source's feed up to the common checkpoint, and also up to each sequence
+-- that both peers' logs claim. An audit of consistent peers finds no uncovered leaf. The clause `covered` says when
+-- settling a parcel never returns `Uncovered`.
 pub record IsTrustworthy (refuses : Document → Bool) (w : WorldValue) : Type 0 where
   pub tied : Tied w
   pub honest : LogsAreHonest w.source w.target w.chosen

@@ -134,8 +134,8 @@ abbrev pub agreed : WorldValue → List EntryValue → Option (SessionId × ℕ)
 agreed w log = common log (target_log w.target (rep_of w))
 
 -- The parameters of a new session of the target. A new session begins at the common checkpoint of the target's log and
--- of the source's log `log`, which is a message in transit. The new session has the life (incarnation of the source's
--- database) that is stored with the message `log`.
+-- of the source's log `log`, which is a message in transit. The new session gets its life (the incarnation of the
+-- source's database) from the message `log`.
 abbrev pub beginning_in : WorldValue → ℕ → ℕ × List EntryValue → Beginning
 beginning_in w goal log = record {
   scope = record { rep = rep_of w; life = log.0; base = base_at (agreed w log.1); goal = goal };
@@ -182,7 +182,7 @@ run refuses w (step ∷ steps) = run refuses (happens refuses w step) steps
 -- ---- failed allocations
 
 -- A `Settle` step that fails because an allocation fails leads to the state `now`. The failed `Settle` step either has
--- no effect, or has settled some of the parcel's first documents.
+-- no effect, or has settled the parcel's first n documents, for a number n.
 abbrev pub IsStopped : (Document → Bool) → WorldValue → SessionId → Option (ℕ × ParcelValue) → WorldValue → Type 0
 IsStopped refuses w session parcel now =
     (now ≡ w)

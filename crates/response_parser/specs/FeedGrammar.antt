@@ -1,5 +1,6 @@
--- Defines the grammar of responses to `_changes` and `_revs_diff`, and defines the leaves in such responses. Both are
--- specified in docs/PROFILE.md, "CouchDB's answers", and in CouchDB's API, "/{db}/_changes" and "/{db}/_revs_diff".
+-- Defines the grammar of responses to `_changes` and `_revs_diff`, and defines the leaves in such responses. The
+-- grammar and the leaves are specified in docs/PROFILE.md, "CouchDB's answers", and in CouchDB's API, "/{db}/_changes"
+-- and "/{db}/_revs_diff".
 --
 -- In this file, k is a name without its opening quotation mark, s is white space, and d is the number of open lists and
 -- objects. In this file, t is the text of a value up to the comma or brace that follows the value, and u is the same
@@ -17,9 +18,9 @@ use Rattle.response_parser.specs.declared.place.Found.TheVariants.{Id, Rev}
 -- ---- objects and lists
 
 -- The members of an object, up to its closing brace. The parameter `Member` is a relation between two flags n and n', a
--- member's text m, and the member's items ps. In a feed row, the flag n says whether the row's id precedes the member
--- m, without a member `changes` in between. The flag n' says the same of the member after m. In all other objects, n
--- and n' are false.
+-- member's text m, and the member's items ps. In a feed row, the flag n is true exactly if the row's id precedes the
+-- member m and a member `changes` is not between them. The flag n' says the same of the member after m. In an object
+-- that is not a feed row, the flags n and n' are false.
 pub data AreMembersOf (Member : Bool → Bool → List ℕ → List Piece → Type 0) : Bool → List ℕ → List Piece → Type 0 where
   last_member : {n n' : Bool} {m : List ℕ} {ps : List Piece} → Member n n' m ps → AreMembersOf Member n (m ++ 125 ∷ []) ps
   member : {n n' : Bool} {m t : List ℕ} {ps qs : List Piece} (s : List ℕ) → Member n n' m ps → Spaces s → AreMembersOf Member n' t qs
@@ -59,7 +60,7 @@ is_skipped names.Reason = false
 is_skipped names.Other = true
 is_skipped names.Foreign = false
 
--- A member of a response that the parser skips when the caller requested document ids and revisions. The flags `inner`
+-- A member that the parser skips in a response, when the caller requested document ids and revisions. The flags `inner`
 -- and `entry` say whether a member is in a document's list of revisions, and whether the member is in the entry of a
 -- document.
 pub data IsSkipped (inner entry : Bool) (d : ℕ) : List ℕ → Type 0 where

@@ -19,9 +19,9 @@ pub record IsValue (t u : List ℕ) : Type 0 where
   pub first : is_space (slice_index t 0) ≡ false
   pub json : is_json u ≡ true
 
--- The text k is a member's name without the opening quotation mark. The parser derives the kind `name` of a member from
--- the member's name k, the Boolean `first` and the number d. The Boolean `first` is true if the member is the first
--- member of its object. The number d counts the open lists and objects.
+-- The text k is a member's name without the opening quotation mark. The Boolean `first` says whether the member is the
+-- first member of its object, and d is the number of open lists and objects. The parser derives the kind `name` of a
+-- member from its name k, from `first` and from d.
 pub record IsNamed (wanted : Wanted) (first : Bool) (d : ℕ) (k : List ℕ) (name : Name) : Type 0 where
   pub string : EndsString k
   pub json : is_json (34 ∷ k) ≡ true
@@ -99,8 +99,8 @@ mutual
         → IsObject wanted d (123 ∷ (s ++ t)) ps
     itself : {d : ℕ} {o : List ℕ} {ps : List Piece} → d < 8 → IsDocument wanted o ps → IsObject wanted d o ps
 
-  -- The members of an object, from a name to the closing brace. The Boolean argument is true if the members begin with
-  -- the object's first name.
+  -- The members of an object from any of its names on, up to the closing brace. The Boolean argument is true if the
+  -- members begin with the object's first name.
   pub data IsMembers (wanted : Wanted) : Bool → ℕ → List ℕ → List Piece → Type 0 where
     last_value : {f : Bool} {d : ℕ} {k : List ℕ} (s s' : List ℕ) {t u : List ℕ} {name : Name} {ps : List Piece} → IsNamed wanted f d k name → Holds wanted name u ps
         → Spaces s → Spaces s' → IsValue t u → IsMembers wanted f d (34 ∷ (k ++ (s ++ 58 ∷ (s' ++ (t ++ 125 ∷ []))))) ps

@@ -1,7 +1,7 @@
 -- This file compares a parser that stores each byte with a parser that passes on some string bytes of a long document
 -- without storing them. The *full* state is the state of the parser that stores each byte. The *stored* state is the
 -- state of the parser that passes on some string bytes without storing them. The stored state equals the full state,
--- except that its text lacks the bytes that were passed on without being stored.
+-- except that the text in the stored state lacks the bytes that were passed on without being stored.
 use Rattle.std.specs.Prelude.{◌≡◌, ℕ, ◌≤◌, ◌==◌, length, slice_index, List, ◌++◌, Bool, true, false}
 use Rattle.doc_envelope.specs.Names.{is_log}
 use Rattle.response_parser.specs.Names.{is_plain}

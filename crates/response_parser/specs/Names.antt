@@ -172,9 +172,9 @@ is_error Reason = false
 is_error Other = false
 is_error Foreign = false
 
--- The kind of item that the parser finds in a member's value, given the member's kind. The argument `first` is the
--- value's first byte. The text of a document begins with a brace, and the text of an id or a revision begins with a
--- quotation mark.
+-- The kind of item (`Found`) that the parser finds in a member's value, such as a document or an id. The first argument
+-- is the member's kind (`Name`). The argument `first` is the value's first byte. The text of a document begins with a
+-- brace, and the text of an id or a revision begins with a quotation mark.
 abbrev pub found_of : Name → ℕ → Found
 found_of Plain first = found.Nothing
 found_of Item first = found.Nothing
@@ -214,8 +214,8 @@ passes Other first = false
 passes Foreign first = false
 
 -- The error that a member's value causes, or `None`. A value that must be a document id or a revision causes an error
--- if it is not a string. A string `reason` causes `CouchError` if a string `error` came before in the response. Between
--- `error` and `reason`, the parser must not have entered or left a list or object that it searches.
+-- if it is not a string. A string `reason` causes `CouchError` if a string `error` came before in the response. An
+-- earlier `error` does not count if the parser has since entered or left a list or object that the parser searches.
 abbrev pub refusal_of : Name → ℕ → Bool → Option Refusal
 refusal_of Plain first failed = None
 refusal_of Item first failed = None

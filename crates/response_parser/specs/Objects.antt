@@ -62,7 +62,7 @@ entry_opened s = opened Member (record s { diff = true; found = found.Id })
 abbrev pub list_opened : State → State
 list_opened s = cond (wants_changes s.wanted) (refused NoAnswer s) (opened Item s)
 
--- Whether a place in the grammar is before the first response.
+-- Whether the parser's place is before the first response of its input.
 abbrev pub is_first : Place → Bool
 is_first Start = true
 is_first Begin = true
@@ -123,8 +123,8 @@ abbrev pub after_member : State → ℕ → State
 after_member s b =
     cond (is_space b) s (cond (b == 44) (at NextMember s) (cond (b == 125) (object_closed s) (refused NotJson s)))
 
--- The parser's state after the first name of an object that the parser reads as one value. The parser's stored text is
--- the object's opening brace and first name.
+-- The parser's state after it has read the first name of an object. The parser reads this object as one value. The
+-- parser's stored text is the object's opening brace and first name.
 abbrev pub plain_begun : Name → State → State
 plain_begun name s = record s { place = Value name; text = 123 ∷ s.text; nesting = 1 }
 

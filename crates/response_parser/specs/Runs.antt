@@ -18,8 +18,8 @@ abbrev pub in_value_of : Name → Bool → Place
 in_value_of name true = Quoted name
 in_value_of name false = Value name
 
--- In state s, the parser is in the value of a member of the kind `name`, and has stored a part of the value. In the
--- value, `nesting` brackets are open.
+-- In state s, the parser is in the value of a member of the kind `name`, and has stored a part of the value. The number
+-- of open brackets in the value is `nesting`.
 pub record IsInValue (s : State) (name : Name) (quoted : Bool) (nesting : ℕ) : Type 0 where
   pub place : s.place ≡ in_value_of name quoted
   pub nesting_is : s.nesting ≡ nesting

@@ -16,8 +16,9 @@ pub record State : Type 0 where
   pub some : Bool
   -- The number of lists and objects that are open at the parser's position.
   pub depth : ℕ
-  -- Whether the innermost open object has a known member, such as `ok` or `results`. The parser skips or rejects an
-  -- object without a known member. Whether the innermost open object has a member with a document id.
+  -- Whether the innermost open object has a known member, such as `ok` or `results`. An object without a known member
+  -- causes the error `NoDocument` if the parser is strict (`is_strict`). If the parser is not strict, it skips the
+  -- object. Whether the innermost open object has a member with a document id.
   pub known : Bool
   pub named : Bool
   -- Whether the parser's last name is the first name of its object.

@@ -71,7 +71,7 @@ module _ (old other t : TreeValue) (tree : IsTree other) (grown : IsGrownBy old 
 one_parent : {X : Type 0} (o : Option X) (x y : X) → o ≡ Some x → o ≡ Some y → x ≡ y
 one_parent {X = X} o x y h k = ap (λ (v : Option X). option_map_or (λ w. w) v x) (sym h ∙ k)
 
--- If tree t has grown from tree `old`, each leaf of t that is in `old` is a leaf of `old`.
+-- If tree t has grown from tree `old`, each leaf of t that is a revision of `old` is a leaf of `old` too.
 leaf_kept : (old other t : TreeValue) → IsGrownBy old other t → (l : RevId) → is_leaf t l ≡ true → has old l ≡ true → is_leaf old l ≡ true
 leaf_kept old other t grown l top there =
     elim (cases_Bool (is_parent old l)) [
@@ -198,8 +198,8 @@ same_order R S r s (k ∷ xs) h =
     ∙ same_placed R S r k (in_order R xs) (λ y m. h k y (ap (λ b. b || list_any (eq_by_cmp R k) xs) ((eq_by_cmp_equiv r).refl k)) (or_right _ _ (sym (any-in_order r xs y) ∙ m)))
     ∙ ap (placed S k) (same_order R S r s xs (λ a b m n. h a b (or_right _ _ m) (or_right _ _ n))) ∙ sym (in_order-cons s k xs)
 
--- Revision r is in the unsorted list of the leaves of tree t exactly if r is a leaf of t. The search for r in this list
--- may use the leaf order of any tree u, because only identical revisions compare as equal in a leaf order.
+-- Revision r is in the unsorted list of the leaves of tree t exactly if r is a leaf of t. A search for r in the list of
+-- t's leaves may use the leaf order of any tree u. Only identical revisions compare as equal in a leaf order.
 any_leaf : (u t : TreeValue) (r : RevId) → list_any (eq_by_cmp (leaf_cmp u) r) (filter (is_leaf t) (keys t.origins)) ≡ is_leaf t r
 any_leaf u t r =
     let all = filter (is_leaf t) (keys t.origins) in

@@ -31,7 +31,7 @@ falls (r ∷ []) = true
 falls (r ∷ (s ∷ revs)) = nat_eq r.generation (s.generation + 1) && falls (s ∷ revs)
 
 -- The index of a tree whose nodes have the revisions `revs`: a map from the revisions' hashes to the nodes' positions.
--- The index of a tree's nodes is empty if the nodes are few enough to be scanned. If each revision's generation is one
--- lower than that of the previous revision, the index is empty, because the generation determines the node's position.
+-- The index of a tree's nodes is empty if the nodes are few enough to be scanned. If the generations in `revs` fall by
+-- one from each revision to the next, the tree's index is empty, because a node's generation determines its position.
 abbrev pub index_for : List RevId → List (ℕ × ℕ)
 index_for revs = if nat_lt MOST_WALKED (length revs) && not (falls revs) then noted_from [] 0 revs else []

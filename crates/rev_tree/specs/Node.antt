@@ -8,8 +8,8 @@ use Rattle.rev_tree.specs.declared.node.Known.TheVariants.{Bare, Full}
 use Rattle.rev_tree.specs.declared.origin.Origin.{Origin}
 use Rattle.rev_tree.specs.declared.origin.Origin.TheVariants.{Local, Feed}
 
--- A node: its revision, its origin, its content, its parent's index, and whether it is the parent of another node. The
--- content and the parent's index may be unknown.
+-- A node: its revision, its origin, its content, its parent's index, and whether it is the parent of another node. A
+-- node's content and the index of a node's parent may be unknown.
 pub record NodeValue : Type 0 where
   pub rev : RevId
   pub parent : Option ℕ
@@ -35,15 +35,15 @@ abbrev pub content_of : Known → Option ContentValue
 content_of (Bare marks counted) = None
 content_of (Full marks counted content) = Some content
 
--- The index of a node's parent, decoded from the stored number. The stored number is the index plus 1, or 0 if the
--- parent is not known.
+-- The index of a node's parent, decoded from the stored number. The number stored for a node's parent is the parent's
+-- index plus 1, or 0 if the parent is not known.
 abbrev pub parent_of : ℕ → Option ℕ
 parent_of zero = None
 parent_of (suc place) = Some place
 
 -- The origin of a revision, decoded from a Boolean, the halves `high` and `low` of a session's number, and the integer
--- `number`. If the Boolean is true, the origin is the feed of this session, and `number` is the sequence in the feed.
--- If the Boolean is false, the origin is a local write, and `number` is the number of the local write.
+-- `number`. If the origin's Boolean is true, the origin is the session's feed, and `number` is the sequence in this
+-- feed. If the origin's Boolean is false, the origin is a local write, and `number` is the number of the local write.
 abbrev pub origin_of : Bool → ℕ → ℕ → ℕ → Origin
 origin_of false high low number = Local number
 origin_of true high low number = Feed (record { 0 = high * 2 ^ 64 + low }) number

@@ -51,8 +51,8 @@ abbrev pub entry_of : {X : Type 0} → RevId → Option X → List (RevId × X)
 entry_of r None = []
 entry_of r (Some x) = (r, x) ∷ []
 
--- A list with one map entry for each node for which the function f returns a value. The key of a node's map entry is
--- the node's revision.
+-- A list of map entries. If the function f returns a value for a node, the list has one entry for this node, and
+-- otherwise no entry for it. The key of a node's map entry is the node's revision.
 abbrev pub entries_of : {X : Type 0} → (NodeValue → Option X) → List NodeValue → List (RevId × X)
 entries_of f [] = []
 entries_of f (n ∷ nodes) = entry_of n.rev (f n) ++ entries_of f nodes
@@ -111,7 +111,7 @@ pub record NodesValue : Type 0 where
   pub index_capacity : ℕ
 
 -- The list of nodes v has space for `more` further nodes. A list that is too long to be scanned needs an index. If the
--- list with `more` further nodes is too long, the index has space for an entry of each node.
+-- list is too long to be scanned after adding `more` nodes, the index has space for an entry of each node.
 pub record HasRoom (v : NodesValue) (more : ℕ) : Type 0 where
   pub few : length v.items + more < 2 ^ 32
   pub nodes : length v.items + more ≤ v.capacity
@@ -119,7 +119,7 @@ pub record HasRoom (v : NodesValue) (more : ℕ) : Type 0 where
 
 -- The effect of adding revision r to the list of nodes `old`, which gives the list `new`. The node of the revision r is
 -- at position k of the list `new`, and the nodes of `old` keep their positions. If the revision r is new, adding its
--- node uses the reserved space for one node, and otherwise no space.
+-- node uses the reserved space for one node. If r is not new, adding r uses no space.
 pub record HasGained (old new : NodesValue) (r : RevId) (origin : Origin) (k : ℕ) : Type 0 where
   pub tree : tree_of new.items ≡ with_rev (tree_of old.items) r origin
   pub at : slice_get (revs_in new.items) k ≡ Some r

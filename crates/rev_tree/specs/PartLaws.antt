@@ -1,5 +1,6 @@
 -- Theorems about a tree that is a part of another tree. If tree t is a part of tree s, it is still a part of s after
--- adding a leaf of s and the leaf's ancestors. A part of s that has all leaves of s equals s.
+-- adding a leaf of s and the leaf's ancestors. If a part of tree s has all leaves of s, the part has the same
+-- revisions, parents and leaf contents as s.
 use Rattle.std.proofs.Common.{◌≡◌, ℕ, zero, suc, ◌≤◌, true, false, not, cond, ◌||◌, List, [], ◌∷◌, Option, Some, None, is_some, refl, sym, ap, ◌∙◌, inl, inr, arith}
 use Rattle.std.specs.Option.{option_map_or, option_or}
 use Rattle.std.specs.Ordering.{eq_by_cmp}
@@ -29,7 +30,7 @@ or_known : {X : Type 0} (x y : Option X) → is_some x ≡ true → option_or x 
 or_known None y h = absurd (false≢true h)
 or_known (Some x) y h = refl
 
--- An option that is not `Some` of any value is `None`.
+-- If an option differs from `Some x` for each value x, the option is `None`.
 pub none_is : {X : Type 0} (o : Option X) → ((x : X) → o ≡ Some x → ⊥) → o ≡ None
 none_is None h = refl
 none_is (Some x) h = absurd (h x refl)
@@ -125,7 +126,7 @@ at_leaf s leaf q h =
       | false ↦ λ _ e. absurd (false≢true (sym (ap is_some e) ∙ h))
     ] refl at)
 
--- Adding a leaf of tree s with its ancestors to a part of s gives a part of s.
+-- If tree t is a part of tree s, then t is still a part of s after adding a leaf of s and the leaf's ancestors.
 module _ (s t : TreeValue) (tree : IsTree s) (part : IsPart s t) (leaf : RevId) (is : is_leaf s leaf ≡ true) (o : Origin) where
   abbrev revs : List RevId
   revs = ancestors s leaf
@@ -145,8 +146,7 @@ module _ (s t : TreeValue) (tree : IsTree s) (part : IsPart s t) (leaf : RevId) 
   absent_parent : (q : RevId) → has t q ≡ false → get t.parents q ≡ None
   absent_parent q h = none_is (get t.parents q) (λ p e. false≢true (sym h ∙ part.child q p e))
 
-  -- The following lemmas are about the tree `grown`. The tree `grown` is tree t, after adding the leaf `leaf` of tree s
-  -- and the leaf's ancestors.
+  -- Lemmas about the tree `grown`, which is tree t after adding the leaf `leaf` of tree s and the leaf's ancestors.
   brought_parent : (q : RevId) → is_among q revs ≡ true → get grown.parents q ≡ get s.parents q
   brought_parent q among =
       let edge : find rev_cmp q (edges_of revs) ≡ get s.parents q = edges_walked s tree leaf.generation leaf q known (omega arith) among in
@@ -222,7 +222,7 @@ module _ (s t : TreeValue) (tree : IsTree s) (part : IsPart s t) (leaf : RevId) 
 
 -- ---- the complete tree
 
--- If a part of tree s has a revision, it also has each ancestor of the revision that a traversal of s visits.
+-- If a part t of tree s has a revision x, then t also has each ancestor that a traversal of s from x visits.
 part_walked : (s t : TreeValue) → IsPart s t → (n : ℕ) (x r : RevId) → has t x ≡ true → is_among r (walk s.parents n x) ≡ true → has t r ≡ true
 part_walked s t part zero x r there h = elim (or_cases _ _ h) [ inl tie ↦ ap (has t) (rev_tie_is r x tie) ∙ there | inr nothing ↦ absurd (false≢true nothing) ]
 part_walked s t part (suc n) x r there h =

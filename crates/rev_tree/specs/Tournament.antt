@@ -29,7 +29,8 @@ IsBefore x None = Unit {0}
 IsBefore None (Some b) = ⊥
 IsBefore (Some a) (Some b) = is_lt (key_cmp b a) ≡ false
 
--- The key of a node whose index, counted from 1, is a stored number. The number 0 has the key `None`.
+-- The key of the node that a stored number names. A stored number is the node's index plus 1. For the stored number 0,
+-- the key is `None`.
 abbrev pub entry : List NodeValue → ℕ → Option Key
 entry nodes zero = None
 entry nodes (suc p) = option_map key_of (slice_get nodes p)
@@ -40,8 +41,8 @@ leaf_key None = None
 leaf_key (Some n) = cond n.has_child None (Some (key_of n))
 
 -- The key of the leaf at index k of the comparison tree, or `None` if this index has no leaf. The parameters of `under`
--- are the nodes, the stored winners of comparisons, the number of nodes entered into the comparison tree, and the index
--- k.
+-- are the nodes, the stored winners of comparisons, the number `entered` and the index k. The number `entered` counts
+-- the nodes in the comparison tree.
 abbrev pub under : List NodeValue → List ℕ → ℕ → ℕ → Option Key
 under nodes winners entered k =
     cond (nat_lt k (length winners)) (entry nodes (get_or winners k 0))
@@ -56,7 +57,8 @@ pub record IsHeld (nodes : List NodeValue) (winners : List ℕ) (entered : ℕ) 
   pub contents : (i p : ℕ) (n : NodeValue) → get_or winners i 0 ≡ suc p → slice_get nodes p ≡ Some n → is_some n.content ≡ true
   pub leaves : (j : ℕ) (n : NodeValue) → j < entered → slice_get nodes j ≡ Some n → n.has_child ≡ false → is_some n.content ≡ true
 
--- In each comparison, except the comparison with index x, neither of the two leaves wins over the stored winner.
+-- The stored winner of a comparison does not lose to either of the comparison's two leaves. This may be false of the
+-- comparison with index x.
 pub record IsPlayed (nodes : List NodeValue) (winners : List ℕ) (entered x : ℕ) : Type 0 where
   pub held : IsHeld nodes winners entered
   pub ordered : (k : ℕ) → 2 ≤ k → k / 2 < length winners → (k / 2 ≡ x → ⊥) → IsBefore (entry nodes (get_or winners (k / 2) 0)) (under nodes winners entered k)

@@ -5,9 +5,10 @@ use Rattle.std.specs.Int.{is_in_range}
 use Rattle.std.specs.Char.{digit_char, is_control}
 use Rattle.std.specs.List.{flat_map, list_any}
 
--- The ranges of hidden characters (which are printed only as escapes) above U+009F. The ranges have format characters,
--- direction marks, line and paragraph separators, and characters that Unicode 15 calls default-ignorable. The ranges of
--- hidden characters also have U+FFFE and U+FFFF, because XML forbids these two characters.
+-- The ranges of hidden characters (which are printed only as escapes) above U+009F. The ranges of hidden characters
+-- contain format characters, direction marks, line and paragraph separators, and characters that Unicode 15 calls
+-- default-ignorable. The ranges of hidden characters also contain U+FFFE and U+FFFF, because XML forbids these two
+-- characters.
 abbrev pub hidden_ranges : List (ℕ × ℕ)
 hidden_ranges =
     (0xAD, 0xAD) ∷ (0x34F, 0x34F) ∷ (0x600, 0x605) ∷ (0x61C, 0x61C) ∷ (0x6DD, 0x6DD) ∷ (0x70F, 0x70F) ∷ (0x890, 0x891)
@@ -16,8 +17,8 @@ hidden_ranges =
     ∷ (0xFFFE, 0xFFFF) ∷ (0x110BD, 0x110BD) ∷ (0x110CD, 0x110CD) ∷ (0x13430, 0x1343F) ∷ (0x1BCA0, 0x1BCA3)
     ∷ (0x1D173, 0x1D17A) ∷ (0xE0000, 0xE0FFF) ∷ []
 
--- Whether a character is hidden, that is, is printed only as an escape. Hidden characters are the control characters
--- and the characters in `hidden_ranges`.
+-- Whether a character is hidden. A hidden character is printed only as an escape. Hidden characters are the control
+-- characters and the characters in `hidden_ranges`.
 unfoldable pub is_hidden : ℕ → Bool
 is_hidden c = is_control c || list_any (λ r. is_in_range r.0 r.1 c) hidden_ranges
 
