@@ -1,7 +1,7 @@
 -- Defines the guarantees for the output of every script, as specified in docs/PROFILE.md, "Tied databases".
 use Rattle.std.specs.Prelude.{ℕ, List, Result, IfOk}
 use Rattle.script_engine.specs.Serving.{Told, Answering}
-use Rattle.script_databases.specs.AllTied.{AllTied}
+use Rattle.script_databases.specs.Consistent.{IsConsistent}
 use Rattle.script_databases.specs.Databases.{State}
 use Rattle.script_databases.specs.declared.refusal.Refusal.{Refusal}
 use Rattle.commands.specs.Script.{Asks, AnswersAsked}
@@ -23,5 +23,5 @@ IsTrusted ask told new = Unit {0}
 -- a script are consistent with each other before and after a line, and the output of the line satisfies `IsTrusted`.
 abbrev pub TrustedLines : Answering State (List ℕ)
 TrustedLines old line told new =
-    (asked : Result Asked Refusal) × Asks line asked × AnswersAsked old asked told new × AllTied old × AllTied new
+    (asked : Result Asked Refusal) × Asks line asked × AnswersAsked old asked told new × IsConsistent old × IsConsistent new
     × IfOk asked (λ ask. IsTrusted ask told new)

@@ -53,7 +53,7 @@ impl<'a, H: Threads + Wait + Sync, L: ObserveAnswers> Serve for Interpreter<'a, 
 
     ghost can_serve = { IsSync H.row };
 
-    ghost answers = { LinesAnswer };
+    ghost answers = { TrustedLines };
 
     type Rest = Rest;
 
@@ -98,16 +98,19 @@ fn answer_line<H: Threads + Wait + Sync>(
     answer: &mut Vec<u8>,
 ) -> Result<Option<Rest>, Refusal>
     requires { answer.old.items ≡ [] }
-    ensures told { MayTell LinesAnswer databases.old line.now (told_begun databases.new result answer.new.items)
+    ensures told { MayTell TrustedLines databases.old line.now (told_begun databases.new result answer.new.items)
         databases.new }
     ensures fits { IfOk result (λ rest. Fits (FitsRest databases.new) rest) }
     ensures split { IfOk result (λ rest. IsSplit 65536 (rest_left databases.new) true answer.new.items rest) }
 {
+    databases.law();
     let value = match read_object(values, alloc, line) {
         Ok(value) => value,
         Err(refusal) => return Err(refusal),
     };
-    words::serve(rt, alloc, databases, &value, answer)
+    let served = words::serve(rt, alloc, databases, &value, answer);
+    databases.law();
+    served
 }
 
 /// Parses a line as a JSON object.
@@ -149,10 +152,10 @@ pub fn read_object<'a>(
 ///
 /// - `Read`: the reader failed in this call, or 4,294,967,295 reads of at most 65,536 bytes were made.
 /// - `Write`: the writer failed in this call.
-/// - `Memory`: an allocation failed before anything was read, or while a line was read. The output of all lines before
-///   the failed allocation is complete.
-/// - `Cut`: an allocation failed after the first piece of a line's output. The output of all earlier lines is complete,
-///   and a part of the failed line's output is missing.
+/// - `Memory`: an allocation failed before anything was read, or while a line was read. With the error `Memory`, the
+///   output of all earlier lines is complete.
+/// - `Cut`: an allocation failed after the first piece of a line's output. With the error `Cut`, the output of all
+///   earlier lines is complete, and a part of the failed line's output is missing.
 pub fn run_script<H, R: ScriptRead, W: ScriptWrite, L: ObserveAnswers>(
     rt: &H,
     reader: &mut R,
@@ -167,17 +170,17 @@ where
         (λ clean. (input : List ℕ) × (text : List ℕ) × (state : State) × Gives (R.left reader.old) input
         × Appends (W.held writer.old) (W.held writer.new) text
         × IsAnswered LinesAnswer (no_databases (program_of settings.now)) input clean text state) }
-    // All databases are consistent with each other before and after every line. An `audit` line therefore never reports
-    // a leaf that is not covered. If a `replicate` line prints that its session reached its goal, the target covers the
-    // source's selected feed.
+    // All databases are consistent with each other before and after every line. Because all databases are consistent,
+    // an `audit` line never reports a leaf that is not covered. If a `replicate` line prints that its session reached
+    // its goal, the target covers the source's selected feed.
     ensures trust { IfOk result
         (λ clean. (input : List ℕ) × (text : List ℕ) × (state : State) × Gives (R.left reader.old) input
         × Appends (W.held writer.old) (W.held writer.new) text
         × IsAnswered TrustedLines (no_databases (program_of settings.now)) input clean text state) }
     ensures end { OnOk result (IsAtEnd (R.left reader.new)) }
-    // The clauses `answers` and `trust` are about the complete input of the reader. The clause `took` makes the
-    // statements of the clauses `answers` and `trust` about those input bytes that the call has read. The clause
-    // `ended` says that the last read found the end of the input.
+    // The clauses `answers` and `trust` are about the complete input of the reader. The clause `took` states the
+    // guarantees of `answers` and `trust` for the input bytes that the call has read. The clause `ended` says that the
+    // last read found the end of the input.
     ensures took { IfOk result
         (λ clean. (input : List ℕ) × (text : List ℕ) × (state : State)
         × Appends (R.taken reader.old) (R.taken reader.new) input × Appends (W.held writer.old) (W.held writer.new) text
@@ -231,27 +234,27 @@ fn run_on<H: Threads + Wait + Sync, R: ScriptRead, W: ScriptWrite, L: ObserveAns
 ) -> (Result<bool, ScriptFault>, Databases)
     ensures answers { IfOk result.0 (λ clean. (input : List ℕ) × (text : List ℕ) × Gives (R.left reader.old) input
         × Appends (W.held writer.old) (W.held writer.new) text
-        × IsAnswered LinesAnswer databases input clean text result.1) }
+        × IsAnswered TrustedLines databases input clean text result.1) }
     ensures end { OnOk result.0 (IsAtEnd (R.left reader.new)) }
     ensures took { IfOk result.0 (λ clean. (input : List ℕ) × (text : List ℕ)
         × Appends (R.taken reader.old) (R.taken reader.new) input × Appends (W.held writer.old) (W.held writer.new) text
-        × IsAnswered LinesAnswer databases input clean text result.1) }
+        × IsAnswered TrustedLines databases input clean text result.1) }
     ensures ended { OnOk result.0 (R.ended reader.new) }
     ensures counted { OnOk result.0 ((R.failures reader.new ≡ R.failures reader.old)
         × (W.failures writer.new ≡ W.failures writer.old)) }
     ensures fault { IfErr result.0 (λ fault. (input : List ℕ) × (text : List ℕ) × Gives (R.left reader.old) input
-        × Appends (W.held writer.old) (W.held writer.new) text × IsToldUntil fault LinesAnswer databases input text
+        × Appends (W.held writer.old) (W.held writer.new) text × IsToldUntil fault TrustedLines databases input text
         × IsFaultOf fault (R.reads reader.old) (R.reads reader.new) (R.failures reader.old) (R.failures reader.new)
         (W.failures writer.old) (W.failures writer.new)) }
     ensures read { IfErr result.0 (λ fault. fault ≡ Read → (taken : List ℕ) × (text : List ℕ)
         × Consumes (R.left reader.old) (R.left reader.new) taken × Appends (W.held writer.old) (W.held writer.new) text
-        × AnswersEnded LinesAnswer databases taken text result.1) }
+        × AnswersEnded TrustedLines databases taken text result.1) }
     ensures took_until { IfErr result.0 (λ fault. (input : List ℕ) × (text : List ℕ)
         × Appends (R.taken reader.old) (R.taken reader.new) input × Appends (W.held writer.old) (W.held writer.new) text
-        × IsToldUntil fault LinesAnswer databases input text) }
+        × IsToldUntil fault TrustedLines databases input text) }
     ensures took_in { IfErr result.0 (λ fault. fault ≡ Read → (input : List ℕ) × (text : List ℕ)
         × Appends (R.taken reader.old) (R.taken reader.new) input × Appends (W.held writer.old) (W.held writer.new) text
-        × AnswersEnded LinesAnswer databases input text result.1) }
+        × AnswersEnded TrustedLines databases input text result.1) }
     ensures sent { IsSent result.0 (W.held writer.new) (W.sent writer.new) }
 {
     let mut interpreter = Interpreter {

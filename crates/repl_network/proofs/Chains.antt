@@ -1,10 +1,9 @@
 -- Chains of hops through a hub.
-use Rattle.proof_prelude.proofs.{◌≡◌, ℕ, zero, suc, ◌+◌, ◌<◌, ◌≤◌, List, [], ◌∷◌, ◌++◌, length, take, get_or, refl, sym, ap, ◌∙◌, subst, inl, inr, arith, cases_lt, append_assoc}
-use Rattle.std.proofs.Math.Seq.{take-suc}
+use Rattle.proof_prelude.proofs.{◌≡◌, ℕ, zero, suc, ◌+◌, ◌<◌, ◌≤◌, List, [], ◌∷◌, ◌++◌, length, take, get_or, refl, sym, ap, ◌∙◌, subst, inl, inr, arith, cases_lt, append_assoc, common_steps}
 use Rattle.couch_base.specs.{Id}
 use Rattle.repl_peer.specs.{PeerValue}
 use Rattle.repl_target.specs.{Plan}
-use Rattle.repl_network.specs.{Hop, AreTied, AllChoose, Leads, LeadsEverywhere, Spread, gathers, spreads, AllPlansChoose, HubSpread}
+use Rattle.repl_network.specs.{Hop, AreTied, AllChoose, Leads, LeadsEverywhere, Spread, gathers, hops_of, into_hub, out_of_hub, spreads, AllPlansChoose, HubSpread}
 
 -- ---- chains
 
@@ -22,32 +21,25 @@ then_on (h ∷ xs) ys l m n first second =
 
 -- ---- through a hub
 
-gathered : (plans : List Plan) (k m : ℕ) → k ≤ m → m < k + length plans → Leads (gathers k plans) (m + 1) 0
-gathered [] k m low high = absurd (omega (arith, low, high))
-gathered (plan ∷ plans) k m low high =
+-- the hop of each plan
+led : (hop : ℕ → Plan → Hop) (plans : List Plan) (k m : ℕ) → k ≤ m → m < k + length plans → (plan : Plan) × Leads (hops_of hop k plans) (hop (m + 1) plan).from (hop (m + 1) plan).to
+led hop [] k m low high = absurd (omega (arith, low, high))
+led hop (plan ∷ plans) k m low high =
     elim (cases_lt k m) [
-      | inl later ↦ inl (gathered plans (k + 1) m (omega (arith, later)) (omega (arith, high)))
-      | inr here ↦ (let same : m ≡ k = omega (arith, low, here) in inr (ap (λ x. x + 1) same, stays (gathers (k + 1) plans) 0))
-    ]
-
-spread : (plans : List Plan) (k m : ℕ) → k ≤ m → m < k + length plans → Leads (spreads k plans) 0 (m + 1)
-spread [] k m low high = absurd (omega (arith, low, high))
-spread (plan ∷ plans) k m low high =
-    elim (cases_lt k m) [
-      | inl later ↦ inl (spread plans (k + 1) m (omega (arith, later)) (omega (arith, high)))
+      | inl later ↦ (let x = led hop plans (k + 1) m (omega (arith, later)) (omega (arith, high)) in (x.0, inl x.1))
       | inr here ↦
           let same : k ≡ m = omega (arith, low, here) in
-          inr (refl, subst (λ x. Leads (spreads (k + 1) plans) (k + 1) (x + 1)) same (stays (spreads (k + 1) plans) (k + 1)))
+          subst (λ x. (p : Plan) × Leads (hops_of hop k (plan ∷ plans)) (hop (x + 1) p).from (hop (x + 1) p).to) same (plan, inr (refl, stays (hops_of hop (k + 1) plans) (hop (k + 1) plan).to))
     ]
 
 -- a chain leads from each place to the hub, and from the hub to each place
 to_hub : (plans : List Plan) (m : ℕ) → m < length plans + 1 → Leads (gathers 0 plans) m 0
 to_hub plans zero h = stays (gathers 0 plans) 0
-to_hub plans (suc m) h = (let one : m + 1 ≡ suc m = omega arith in subst (λ x. Leads (gathers 0 plans) x 0) one (gathered plans 0 m (omega arith) (omega (arith, h))))
+to_hub plans (suc m) h = (let one : m + 1 ≡ suc m = omega arith in subst (λ x. Leads (gathers 0 plans) x 0) one (led into_hub plans 0 m (omega arith) (omega (arith, h))).1)
 
 from_hub : (plans : List Plan) (n : ℕ) → n < length plans + 1 → Leads (spreads 0 plans) 0 n
 from_hub plans zero h = stays (spreads 0 plans) 0
-from_hub plans (suc n) h = (let one : n + 1 ≡ suc n = omega arith in subst (λ x. Leads (spreads 0 plans) 0 x) one (spread plans 0 n (omega arith) (omega (arith, h))))
+from_hub plans (suc n) h = (let one : n + 1 ≡ suc n = omega arith in subst (λ x. Leads (spreads 0 plans) 0 x) one (led out_of_hub plans 0 n (omega arith) (omega (arith, h))).1)
 
 hub_leads : (there back : List Plan) (count : ℕ) → count ≡ length there + 1 → count ≡ length back + 1 → LeadsEverywhere (gathers 0 there ++ spreads 0 back) count
 hub_leads there back count a b m n i j =
@@ -71,42 +63,16 @@ hub_spread peers there back hops peers' is a b all net id first second none agre
 
 -- ---- one more plan
 
-pub gathers_more : (plans : List Plan) (k : ℕ) (plan : Plan) → gathers k (plans ++ plan ∷ []) ≡ gathers k plans ++ record { from = k + length plans + 1; to = 0; plan = plan } ∷ []
-gathers_more [] k plan = (let e : k + 1 ≡ k + 0 + 1 = omega arith in ap (λ (n : ℕ). record { from = n; to = 0; plan = plan } ∷ []) e)
-gathers_more (first ∷ plans) k plan =
+hops_more : (hop : ℕ → Plan → Hop) (plans : List Plan) (k : ℕ) (plan : Plan) → hops_of hop k (plans ++ plan ∷ []) ≡ hops_of hop k plans ++ hop (k + length plans + 1) plan ∷ []
+hops_more hop [] k plan = (let e : k + 1 ≡ k + 0 + 1 = omega arith in ap (λ (n : ℕ). hop n plan ∷ []) e)
+hops_more hop (first ∷ plans) k plan =
     let e : k + 1 + length plans + 1 ≡ k + suc (length plans) + 1 = omega arith in
-    ap (λ hs. record { from = k + 1; to = 0; plan = first } ∷ hs)
-    (gathers_more plans (k + 1) plan ∙ ap (λ (n : ℕ). gathers (k + 1) plans ++ record { from = n; to = 0; plan = plan } ∷ []) e)
+    ap (λ hs. hop (k + 1) first ∷ hs) (hops_more hop plans (k + 1) plan ∙ ap (λ (n : ℕ). hops_of hop (k + 1) plans ++ hop n plan ∷ []) e)
 
-pub spreads_more : (plans : List Plan) (k : ℕ) (plan : Plan) → spreads k (plans ++ plan ∷ []) ≡ spreads k plans ++ record { from = 0; to = k + length plans + 1; plan = plan } ∷ []
-spreads_more [] k plan = (let e : k + 1 ≡ k + 0 + 1 = omega arith in ap (λ (n : ℕ). record { from = 0; to = n; plan = plan } ∷ []) e)
-spreads_more (first ∷ plans) k plan =
-    let e : k + 1 + length plans + 1 ≡ k + suc (length plans) + 1 = omega arith in
-    ap (λ hs. record { from = 0; to = k + 1; plan = first } ∷ hs)
-    (spreads_more plans (k + 1) plan ∙ ap (λ (n : ℕ). spreads (k + 1) plans ++ record { from = 0; to = n; plan = plan } ∷ []) e)
-
-length-first : (plans : List Plan) (k : ℕ) → k ≤ length plans → length (take k plans) ≡ k
-length-first [] zero h = refl
-length-first [] (suc k) h = absurd (omega (arith, h))
-length-first (x ∷ plans) zero h = refl
-length-first (x ∷ plans) (suc k) h = ap suc (length-first plans k (omega (arith, h)))
-
-next_plan : (plans : List Plan) (k : ℕ) (plan : Plan) → k < length plans → plan ≡ get_or plans k plan → take (k + 1) plans ≡ take k plans ++ plan ∷ []
-next_plan plans k plan h is = (let e : k + 1 ≡ suc k = omega arith in ap (λ n. take n plans) e ∙ (take-suc plans k plan h ∙ ap (λ x. take k plans ++ x ∷ []) (sym is)))
-
-module _ (plans : List Plan) (k : ℕ) where
-  pub gathers_next : (plan : Plan) (hops : List Hop) → k < length plans → plan ≡ get_or plans k plan → hops ≡ gathers 0 (take k plans) → hops ++ record { from = k + 1; to = 0; plan = plan } ∷ [] ≡ gathers 0 (take (k + 1) plans)
-  gathers_next plan hops within is before =
-      let e : k + 1 ≡ 0 + length (take k plans) + 1 = (let l = length-first plans k (omega (arith, within)) in omega (arith, l)) in
-      ap (λ hs. hs ++ record { from = k + 1; to = 0; plan = plan } ∷ []) before
-      ∙ (ap (λ (n : ℕ). gathers 0 (take k plans) ++ record { from = n; to = 0; plan = plan } ∷ []) e
-      ∙ (sym (gathers_more (take k plans) 0 plan) ∙ ap (gathers 0) (sym (next_plan plans k plan within is))))
-
-  pub spreads_next : (first : List Hop) (plan : Plan) (hops : List Hop) → k < length plans → plan ≡ get_or plans k plan → hops ≡ first ++ spreads 0 (take k plans) → hops ++ record { from = 0; to = k + 1; plan = plan } ∷ [] ≡ first ++ spreads 0 (take (k + 1) plans)
-  spreads_next first plan hops within is before =
-      let e : k + 1 ≡ 0 + length (take k plans) + 1 = (let l = length-first plans k (omega (arith, within)) in omega (arith, l)) in
-      ap (λ hs. hs ++ record { from = 0; to = k + 1; plan = plan } ∷ []) before
-      ∙ (append_assoc first (spreads 0 (take k plans)) (record { from = 0; to = k + 1; plan = plan } ∷ [])
-      ∙ ap (λ hs. first ++ hs)
-      (ap (λ (n : ℕ). spreads 0 (take k plans) ++ record { from = 0; to = n; plan = plan } ∷ []) e
-      ∙ (sym (spreads_more (take k plans) 0 plan) ∙ ap (spreads 0) (sym (next_plan plans k plan within is)))))
+pub plans_next : (hop : ℕ → Plan → Hop) (plans : List Plan) (k : ℕ) (first : List Hop) (plan : Plan) (hops : List Hop) → k < length plans → plan ≡ get_or plans k plan → hops ≡ first ++ hops_of hop 0 (take k plans) → hops ++ hop (k + 1) plan ∷ [] ≡ first ++ hops_of hop 0 (take (k + 1) plans)
+plans_next hop plans k first plan hops within is before =
+    let next : take (k + 1) plans ≡ take k plans ++ plan ∷ [] = grind (arith, common_steps) in
+    let size : 0 + length (take k plans) + 1 ≡ k + 1 = grind (arith, common_steps) in
+    ap (λ hs. hs ++ hop (k + 1) plan ∷ []) before
+    ∙ (append_assoc first (hops_of hop 0 (take k plans)) (hop (k + 1) plan ∷ [])
+    ∙ ap (λ hs. first ++ hs) (sym (ap (hops_of hop 0) next ∙ hops_more hop (take k plans) 0 plan ∙ ap (λ n. hops_of hop 0 (take k plans) ++ hop n plan ∷ []) size)))

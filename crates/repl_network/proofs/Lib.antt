@@ -1,15 +1,16 @@
-pub mod Trees
-pub mod Hops
-pub mod Writes
+pub mod Pairs
+pub mod Steps
 pub mod Places
-pub mod Edits
+pub mod Writes
+pub mod Hops
 pub mod Chains
-pub mod Closed
 pub mod Makes
-pub use Hops.{all_spread, hop_tied}
-pub use Writes.{edit_agree, edit_tied, wrote_agree, wrote_tied}
-pub use Places.{IsOnTheWay, at_of, changed_at, down, down_ended, down_hop, each_all, each_more, hops_all, hops_next, set_filters, takes_all}
-pub use Places.{takes_next, takes_refused, there_at, tied_two, two_filters, unchanged_at, up, up_ended, up_hop, whole_vector}
-pub use Chains.{gathers_next, hub_spread, spreads_next}
-pub use Closed.{added_net, edit_net, hop_net, load_net}
+pub use Pairs.{restores_in}
+pub use Steps.{empty_network, network_tied, same_uuids, step_keeps}
+pub use Places.{added_net, edit_writes, hop_net, hop_tied, load_writes, same_writes, wrote_net, wrote_tied}
+pub use Hops.{all_spread}
+pub use Writes.{edit_agree, wrote_agree}
+pub use Places.{IsOnTheWay, at_of, changed_at, each_all, each_more, ended_of, hop_of, hopped_of, hops_all, hops_next, in_net, map_set}
+pub use Places.{split_changed, swapped, takes_all, takes_next, takes_refused, there_at, tied_two, two_filters}
+pub use Chains.{hub_spread, plans_next}
 pub use Makes.{added_made, edit_made, hop_made, load_made, made_agree}

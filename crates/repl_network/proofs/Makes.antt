@@ -1,5 +1,5 @@
 -- Documents made only by edits agree, if no two different edits have the same MD5; and they stay made by the edits.
-use Rattle.proof_prelude.proofs.{◌≡◌, ℕ, Bool, true, false, List, [], ◌∷◌, ◌++◌, ◌⊎◌, length, Option, Some, None, is_some, Result, Ok, Err, refl, sym, ap, ◌∙◌, subst, inl, inr, bytes_eq, option_to_list, get, get-empty, eq_by_cmp, false≢true, cases_Bool, cond_both, same_Some, bytes_eq-Decides}
+use Rattle.proof_prelude.proofs.{arith, common_steps, ◌≡◌, ℕ, Bool, true, false, List, [], ◌∷◌, ◌++◌, ◌⊎◌, length, Option, Some, None, is_some, Result, Ok, Err, refl, sym, ap, ◌∙◌, subst, inl, inr, bytes_eq, option_to_list, get, get-empty, eq_by_cmp, false≢true, cases_Bool, cond_both, same_Some, bytes_eq-Decides}
 use Rattle.rev_core.specs.{RevId, rev_cmp, rev_tie_is, edges_of, edit_rev}
 use Rattle.rev_tree.specs.{ContentValue, TreeValue, at_head, Agree, IsGrownBy}
 use Rattle.doc_json.specs.Document.{Document}
@@ -7,9 +7,8 @@ use Rattle.couch_base.specs.{Id, tree_of, content_of, edited, edit_document, Bas
 use Rattle.repl_peer.specs.{PeerValue, new_peer, after_edit, after_load}
 use Rattle.repl_network.specs.{Hop, IsAt, peers_of, tree_alone, IsRooted, IsRootedAt, IsChangedAt, EditValue, Makes, IsMadeBy, AllMadeBy, HaveNoCollision, IsOneOf, MadeAgree, StaysMade, StaysMadeExcept}
 use Rattle.repl_network.specs.Hopped.{Hopped}
-use Rattle.repl_network.proofs.Trees.{alone, IsWhole-grown}
-use Rattle.repl_network.proofs.Edits.{edit_rooted, edit_makes, sig_of}
-use Rattle.repl_network.proofs.Closed.{old_or_new, peers_more}
+use Rattle.repl_network.proofs.Writes.{IsWhole-grown, alone, edit_makes, edit_rooted, sig_of}
+use Rattle.repl_network.proofs.Places.{old_or_new, peers_more}
 use Rattle.repl_network.proofs.Hops.{was}
 use Rattle.repl_network.proofs.Writes as writes
 
@@ -51,31 +50,21 @@ module _ (among : EditValue → Bool) where
   pub hop_made : (peers : List PeerValue) (hop : Hop) (peers' : List PeerValue) → Hopped peers hop peers' → (id : Id) → AllMadeBy among peers id → AllMadeBy among peers' id
   hop_made peers hop peers' h id made n p at =
       let x = was peers hop peers' h n p at in
-      grown (tree_of x.0.db.docs id) (tree_of h.source.db.docs id) (tree_of p.db.docs id) (x.2.grown id) (made n x.0 x.1) (made hop.from h.source h.from)
+      grown (tree_of x.0.db.docs id) (tree_of h.moved.source.db.docs id) (tree_of p.db.docs id) (x.2.grown id) (made n x.0 x.1) (made hop.from h.moved.source h.moved.from)
 
   other_stays : (peers : List PeerValue) (place : ℕ) (d : Document) (peers' : List PeerValue) → IsChangedAt place (λ p. after_load p d) peers peers' → (other : Id) → bytes_eq d.id other ≡ false → AllMadeBy among peers other → AllMadeBy among peers' other
   other_stays peers place d peers' w other apart made n p at =
-      let x = writes.same_at peers place d peers' w other apart n p at (writes.where_is peers place d peers' w n) in
+      let x = writes.same_at peers place d peers' w other apart n p at in
       subst (IsMadeBy among) (sym x.2) (made n x.0 x.1)
 
-  -- the document of an edit, without its origin
+  -- the only edge and the only content of an edit's document
   module _ (id : Id) (deleted : Bool) (body : List ℕ) (rev : RevId) where
-    edge_of : (before : Option RevId) → edit_rev before deleted body ≡ Ok rev → among (record { before = before; deleted = deleted; body = body }) ≡ true → (c p : RevId) → get (tree_alone (edit_document id (rev, before) deleted body)).parents c ≡ Some p
-        → (e : EditValue) × (among e ≡ true) × Makes e c × (e.before ≡ Some p)
-    edge_of None makes one c p h = absurd (false≢true (ap is_some (sym (alone (edges_of (rev ∷ [])) c) ∙ h)))
-    edge_of (Some b) makes one c p h =
-        cond_both (eq_by_cmp rev_cmp c rev) (Some b) None (λ (o : Option RevId). o ≡ Some p → (e : EditValue) × (among e ≡ true) × Makes e c × (e.before ≡ Some p))
-        (λ tie k. (record { before = Some b; deleted = deleted; body = body }, one, makes ∙ ap Ok (sym (rev_tie_is c rev tie)), k))
-        (λ _ k. absurd (false≢true (ap is_some k)))
-        (sym (alone (edges_of (rev ∷ b ∷ [])) c) ∙ h)
+    edge_of : (before : Option RevId) (c p : RevId) → get (tree_alone (edit_document id (rev, before) deleted body)).parents c ≡ Some p → (c ≡ rev) × (before ≡ Some p)
+    edge_of None c p h = absurd (false≢true (ap is_some (sym (alone (edges_of (rev ∷ [])) c) ∙ h)))
+    edge_of (Some b) c p h = grind (arith, common_steps, alone (edges_of (rev ∷ b ∷ [])) c, rev_tie_is c rev)
 
-    content_at : (before : Option RevId) → edit_rev before deleted body ≡ Ok rev → among (record { before = before; deleted = deleted; body = body }) ≡ true → (r : RevId) (x : ContentValue) → get (tree_alone (edit_document id (rev, before) deleted body)).contents r ≡ Some x
-        → (e : EditValue) × (among e ≡ true) × Makes e r × (content_of e.deleted e.body ≡ x)
-    content_at before makes one r x h =
-        cond_both (eq_by_cmp rev_cmp r rev) (Some (content_of deleted body)) None (λ (o : Option ContentValue). o ≡ Some x → (e : EditValue) × (among e ≡ true) × Makes e r × (content_of e.deleted e.body ≡ x))
-        (λ tie k. (record { before = before; deleted = deleted; body = body }, one, makes ∙ ap Ok (sym (rev_tie_is r rev tie)), same_Some (content_of deleted body) x k))
-        (λ _ k. absurd (false≢true (ap is_some k)))
-        (sym (alone (at_head (rev ∷ option_to_list before) (content_of deleted body)) r) ∙ h)
+    content_at : (before : Option RevId) (r : RevId) (x : ContentValue) → get (tree_alone (edit_document id (rev, before) deleted body)).contents r ≡ Some x → (r ≡ rev) × (content_of deleted body ≡ x)
+    content_at before r x h = grind (arith, common_steps, alone (at_head (rev ∷ option_to_list before) (content_of deleted body)) r, rev_tie_is r rev)
 
   module _ (peers : List PeerValue) (place : ℕ) (id : Id) (parent : Option RevId) (deleted : Bool) (body : List ℕ) (peers' : List PeerValue) (w : IsChangedAt place (λ p. after_edit p id parent deleted body) peers peers')
     where
@@ -83,26 +72,23 @@ module _ (among : EditValue → Bool) where
       own_made one e is made n p at =
           let d = edit_document id e deleted body in
           let put = writes.put_of peers place id parent deleted body peers' w e is in
-          let x = writes.tree_at peers place d peers' put n p at (writes.where_is peers place d peers' put n) in
+          let x = writes.tree_at peers place d peers' put n p at in
           let was = made n x.0 x.1 in
           let makes = edit_makes w.before.db id parent deleted body e is in
           let rooted : IsRootedAt peers place d = λ q here. subst (λ (y : PeerValue). IsRooted y.db d) (writes.one_peer peers place w.before q w.at here) (edit_rooted w.before.db id parent deleted body e is) in
+          let edit : EditValue = record { before = e.1; deleted = deleted; body = body } in
           record {
-            parents = λ c q h. elim (x.2.parents c q h) [ inl own ↦ was.parents c q own | inr new ↦ edge_of id deleted body e.0 e.1 makes (one w.before w.at e is) c q new ];
-            contents = λ r b h. elim (x.2.contents r b h) [ inl own ↦ was.contents r b own | inr new ↦ content_at id deleted body e.0 e.1 makes (one w.before w.at e is) r b new ];
+            parents = λ c q h. elim (x.2.parents c q h) [ inl own ↦ was.parents c q own | inr new ↦ (let k = edge_of id deleted body e.0 e.1 c q new in (edit, one w.before w.at e is, makes ∙ ap Ok (sym k.0), k.1)) ];
+            contents = λ r b h. elim (x.2.contents r b h) [ inl own ↦ was.contents r b own | inr new ↦ (let k = content_at id deleted body e.0 e.1 r b new in (edit, one w.before w.at e is, makes ∙ ap Ok (sym k.0), k.1)) ];
             whole = writes.wrote_whole peers place d peers' put (λ m q k. (made m q k).whole) rooted n p at;
           }
 
-      other_made : (e : RevId × Option RevId) → edited w.before.db id parent deleted body ≡ Ok e → (other : Id) → bytes_eq id other ≡ false → AllMadeBy among peers other → AllMadeBy among peers' other
-      other_made e is other apart made n p at =
-          other_stays peers place (edit_document id e deleted body) peers' (writes.put_of peers place id parent deleted body peers' w e is) other apart made n p at
-
       made_by : (r : Result (RevId × Option RevId) BaseFault) → edited w.before.db id parent deleted body ≡ r → (at : Id) → (at ≡ id → IsOneOf among peers place id parent deleted body) → AllMadeBy among peers at → AllMadeBy among peers' at
-      made_by (Err why) is at one made = λ n p here. made n p (writes.before_at peers peers' (writes.none_of peers place id parent deleted body peers' w why is) n p here)
+      made_by (Err why) is at one made = λ n p here. made n p (writes.none_of peers place id parent deleted body peers' w why is n p here)
       made_by (Ok e) is at one made =
           elim (cases_Bool (bytes_eq id at)) [
             | inl same ↦ (let equal = (bytes_eq-Decides id at).0 same in subst (AllMadeBy among peers') equal (own_made (one (sym equal)) e is (subst (AllMadeBy among peers) (sym equal) made)))
-            | inr apart ↦ other_made e is at apart made
+            | inr apart ↦ other_stays peers place (edit_document id e deleted body) peers' (writes.put_of peers place id parent deleted body peers' w e is) at apart made
           ]
 
       pub edit_made : (at : Id) → (at ≡ id → IsOneOf among peers place id parent deleted body) → AllMadeBy among peers at → AllMadeBy among peers' at

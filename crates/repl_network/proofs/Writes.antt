@@ -1,19 +1,118 @@
--- The effect of a write at one peer of a network: its peers stay tied, and trees that agree still agree if the write
--- fits.
-use Rattle.proof_prelude.proofs.{◌≡◌, ◌≢◌, ◌⊎◌, ℕ, ◌==◌, Bool, true, false, cond, List, slice_get, Option, Some, unwrap_or, Result, Ok, Err, refl, sym, ap, ◌∙◌, subst, inl, inr, bytes_eq, cases_Bool, cond_both, eqb-false, bytes_eq-Decides, eqb-true}
-use Rattle.rev_core.specs.{RevId}
-use Rattle.rev_tree.specs.{TreeValue, has, merged, no_revisions, Agree, IsWhole, IsRoot, IsGrownBy, IsGrownBy-same, Origin}
+-- Trees that grow by a document, the document of an edit, and the effect of a write at one peer of a network.
+use Rattle.proof_prelude.proofs.{◌≡◌, ◌⊎◌, true, List, ap, ◌∙◌, option_or, get, empty, get-empty, arith, common_steps, ℕ, ◌^◌, Bool, false, cond, [], ◌∷◌, Option, Some, None, is_some, unwrap_or, Result, Ok, Err, refl, sym, subst, inl, inr, nat_lt, is_ok, list_all, option_to_list, result_unwrap_or, eq_by_cmp, false≢true, and_parts, or_cases, or_left, same_Some, bytes_eq, cases_Bool, cond_both, bytes_eq-Decides}
+use Rattle.std.specs.FinMap.{find}
+use Rattle.rev_core.specs.{RevId, rev_cmp, edges_of, rev_tie_is, rev_tie_self, is_among, ◌>>=◌, refused_if, named, next_generation, edit_sig, edit_rev}
+use Rattle.rev_tree.specs.{ContentValue, TreeValue, has, joined, merged, at_head, no_revisions, get-joined, get-joined_known, has-merged, has-merged_given, Agree, IsWhole, IsRoot, IsGrownBy, Origin, first_of, is_leaf, is_deleted, leaves, is_among-leaves, IsGrownBy-same}
 use Rattle.rev_tree.specs.declared.origin.Origin.TheVariants.{Local}
+use Rattle.couch_base.specs.{content_of, Id, DatabaseValue, tree_in, tree_of, parent_answer, edit_id, edited, edit_document, BaseFault, with_tree, tree_in-with_tree, put_answer, is_changed, after_put}
+use Rattle.repl_network.specs.{tree_alone, IsRooted, IsAt, AllAgree, AllWhole, FitsIn, IsRootedAt, EditFits, KeepsAgreement, IsChangedAt}
 use Rattle.doc_json.specs.Document.{Document}
-use Rattle.doc_json.specs.{Choice}
-use Rattle.couch_base.specs.{Id, DatabaseValue, tree_in, tree_of, with_tree, tree_in-with_tree, put_answer, is_changed, content_of, after_put, edited, edit_document, BaseFault}
-use Rattle.repl_peer.specs.{PeerValue, IsLaterPeer, next_local, after_load, load_edited, after_edit}
-use Rattle.repl_peer.proofs.{load_later, IsLaterPeer-same}
-use Rattle.repl_target.specs.{IsTiedPair, Load}
-use Rattle.repl_target.proofs.{tied_call, tied_source}
-use Rattle.repl_network.specs.{IsAt, AreTied, AllAgree, AllWhole, tree_alone, FitsIn, IsRooted, IsRootedAt, EditFits, KeepsAgreement, IsChangedAt}
-use Rattle.repl_network.proofs.Edits.{edit_rooted}
-use Rattle.repl_network.proofs.Trees.{Agree-both, IsGrownBy-written, IsWhole-written}
+use Rattle.repl_peer.specs.{PeerValue, next_local, after_load, load_edited, after_edit}
+use Rattle.repl_network.proofs.Places.{becomes, was_at}
+use Rattle.couch_base.specs.declared.fault.BaseFault.TheVariants as faults
+
+-- two trees that agree, also with the tree they grow from, agree afterwards
+module _ (by s t s' t' : TreeValue) (first : IsGrownBy s by s') (second : IsGrownBy t by t') where
+  pub Agree-both : Agree s t → Agree s by → Agree by t → Agree s' t'
+  Agree-both both left right = record {
+    parents = λ c p q h k. grind (arith, common_steps, first.parents c p h, second.parents c q k, both.parents c p q, left.parents c p q, right.parents c p q);
+    contents = λ r x y h k. grind (arith, common_steps, first.contents r x h, second.contents r y k, both.contents r x y, left.contents r x y, right.contents r x y);
+  }
+
+-- a tree with complete history stays so
+pub IsWhole-grown : (s by s' : TreeValue) → IsGrownBy s by s' → IsWhole s → IsWhole by → IsWhole s'
+IsWhole-grown s by s' grown ours theirs r h none = grind (arith, common_steps, grown.roots r (h, none), ours r, theirs r)
+
+-- ---- a written document
+
+-- a map that was empty before
+pub alone : {X : Type 0} (es : List (RevId × X)) (q : RevId) → get (joined (empty {R = rev_cmp}) es) q ≡ find rev_cmp q es
+alone es q = get-joined empty es q ∙ ap (λ o. option_or o (find rev_cmp q es)) (get-empty rev_cmp q)
+
+-- a tree grows by a document as by a tree of its own
+module _ (t : TreeValue) (revs : List RevId) (b : ContentValue) (o other : Origin) where
+  abbrev new : TreeValue
+  new = merged no_revisions revs b other
+
+  pub IsGrownBy-written : IsGrownBy t new (merged t revs b o)
+  IsGrownBy-written = record {
+    kept = λ c p h. get-joined_known t.parents (edges_of revs) c p h;
+    revs = λ r h. grind (arith, common_steps, has-merged t revs b o r, has-merged_given no_revisions revs b other r);
+    parents = λ c p h. grind (arith, common_steps, get-joined t.parents (edges_of revs) c, alone (edges_of revs) c);
+    contents = λ r x h. grind (arith, common_steps, get-joined t.contents (at_head revs b) r, alone (at_head revs b) r);
+    roots = λ r h. grind (arith, common_steps, get-joined t.parents (edges_of revs) r, alone (edges_of revs) r, has-merged t revs b o r, has-merged_given no_revisions revs b other r);
+  }
+
+  -- the history stays complete if the document's oldest revision has generation 1 or is in the tree
+  pub IsWhole-written : IsWhole t → ((r : RevId) → IsRoot new r → (r.generation ≡ 1) ⊎ (has t r ≡ true)) → IsWhole (merged t revs b o)
+  IsWhole-written whole rooted r h none = grind (arith, common_steps, get-joined t.parents (edges_of revs) r, IsGrownBy-written.roots r (h, none), whole r, rooted r)
+
+-- ---- the revisions of an edit
+
+passed : {A E : Type 0} (b : Bool) (why : E) (x y : A) → (refused_if b why >>= λ _. Ok x) ≡ Ok y → x ≡ y
+passed b why x y e = grind (arith, common_steps)
+
+chosen : {A E : Type 0} (b : Bool) (x y : A) (why : E) → cond b (Ok x) (Err why) ≡ Ok y → x ≡ y
+chosen b x y why e = grind (arith, common_steps)
+
+bound : {A B E : Type 0} (r : Result A E) (f : A → Result B E) (y : B) → (r >>= f) ≡ Ok y → (x : A) × (r ≡ Ok x) × (f x ≡ Ok y)
+bound (Ok x) f y e = (x, refl, e)
+bound (Err why) f y e = absurd (false≢true (ap is_ok e))
+
+named_ok : {A E F : Type 0} (fault : F) (r : Result A E) (a : A) → named fault r ≡ Ok a → r ≡ Ok a
+named_ok fault r a k = grind (arith, common_steps)
+
+-- the revision that the edit makes, and its parent
+edit_parts : (db : DatabaseValue) (id : Id) (parent : Option RevId) (deleted : Bool) (body : List ℕ) (e : RevId × Option RevId) → edited db id parent deleted body ≡ Ok e → (parent_answer (tree_in db.docs id) parent ≡ Ok e.1) × (edit_rev e.1 deleted body ≡ Ok e.0)
+edit_parts db id parent deleted body e h =
+    let x = bound (parent_answer (tree_in db.docs id) parent) _ e h in
+    let y = bound (edit_id x.0 deleted body) _ e x.2 in
+    let same = passed (has (tree_of db.docs id) y.0) (faults.RevExists y.0) (y.0, x.0) e y.2 in (
+      x.1 ∙ ap (λ (z : RevId × Option RevId). Ok z.1) same,
+      subst (λ (z : RevId × Option RevId). edit_rev z.1 deleted body ≡ Ok z.0) same (named_ok faults.GenerationFull (edit_rev x.0 deleted body) y.0 y.1),
+    )
+
+pub edit_makes : (db : DatabaseValue) (id : Id) (parent : Option RevId) (deleted : Bool) (body : List ℕ) (e : RevId × Option RevId) → edited db id parent deleted body ≡ Ok e → edit_rev e.1 deleted body ≡ Ok e.0
+edit_makes db id parent deleted body e h = (edit_parts db id parent deleted body e h).1
+
+-- the signature and the generation of the revision
+made_as : (before : Option RevId) (deleted : Bool) (body : List ℕ) (rev : RevId) → edit_rev before deleted body ≡ Ok rev → ◌≡◌ {A = RevId} (record { generation = next_generation before; sig = edit_sig before deleted body }) rev
+made_as before deleted body rev h = chosen (nat_lt (next_generation before) (2 ^ 32)) _ rev _ h
+
+pub sig_of : (before : Option RevId) (deleted : Bool) (body : List ℕ) (rev : RevId) → edit_rev before deleted body ≡ Ok rev → edit_sig before deleted body ≡ rev.sig
+sig_of before deleted body rev h = ap (λ (y : RevId). y.sig) (made_as before deleted body rev h)
+
+-- the parent of the edit exists
+first : (xs : List RevId) (b : RevId) → first_of xs ≡ Some b → is_among b xs ≡ true
+first [] b e = cc
+first (x ∷ xs) b e = grind (arith, common_steps, rev_tie_self b)
+
+stands : (o : Option TreeValue) (parent : Option RevId) (b : RevId) → parent_answer o parent ≡ Ok (Some b) → has (unwrap_or o no_revisions) b ≡ true
+stands None None b h = cc
+stands None (Some parent) b h = cc
+stands (Some u) (Some parent) b h = grind (arith, common_steps)
+stands (Some u) None b h = grind (arith, common_steps, is_among-leaves u b, first (leaves u) b)
+
+-- ---- its document
+
+module _ (t : TreeValue) (id : Id) (deleted : Bool) (body : List ℕ) (rev : RevId) where
+  ours : (before : Option RevId) (r : RevId) → IsRoot (tree_alone (edit_document id (rev, before) deleted body)) r → is_among r (rev ∷ option_to_list before) ≡ true
+  ours before r root =
+      elim (or_cases _ _ (sym (has-merged no_revisions (rev ∷ option_to_list before) (content_of deleted body) (Local 0) r) ∙ root.0)) [
+        | inl none ↦ absurd (false≢true (sym (ap is_some (get-empty rev_cmp r)) ∙ none))
+        | inr among ↦ among
+      ]
+
+  pub rooted : (before : Option RevId) → rev.generation ≡ next_generation before → ((b : RevId) → before ≡ Some b → has t b ≡ true) → (r : RevId) → IsRoot (tree_alone (edit_document id (rev, before) deleted body)) r → (r.generation ≡ 1) ⊎ (has t r ≡ true)
+  rooted None number there r root = grind (arith, common_steps, ours None r root, rev_tie_is r rev)
+  rooted (Some b) number there r root = grind (arith, common_steps, ours (Some b) r root, rev_tie_is r rev, rev_tie_is r b, there b refl, alone (edges_of (rev ∷ b ∷ [])) r)
+
+pub edit_rooted : (db : DatabaseValue) (id : Id) (parent : Option RevId) (deleted : Bool) (body : List ℕ) (e : RevId × Option RevId) → edited db id parent deleted body ≡ Ok e → IsRooted db (edit_document id e deleted body)
+edit_rooted db id parent deleted body e h =
+    let x = edit_parts db id parent deleted body e h in
+    let number = sym (ap (λ (y : RevId). y.generation) (made_as e.1 deleted body e.0 x.1)) in
+    rooted (tree_of db.docs id) id deleted body e.0 e.1 number
+    (λ b at. stands (tree_in db.docs id) parent b (x.0 ∙ ap (λ o. Ok o) at))
 
 pub one_peer : (peers : List PeerValue) (n : ℕ) (p q : PeerValue) → IsAt peers n p → IsAt peers n q → p ≡ q
 one_peer peers n p q h k = ap (λ (o : Option PeerValue). unwrap_or o p) (sym h ∙ k)
@@ -51,127 +150,52 @@ module _ (t : TreeValue) (d : Document) (t' : TreeValue) where
   written_whole (inl same) whole rooted = subst IsWhole (sym same) whole
   written_whole (inr w) whole rooted = subst IsWhole (sym w.1) (IsWhole-written t d.ancestry (content_of d.deleted d.body) w.0 (Local 0) whole rooted)
 
--- ---- nothing changes
-
-module _ (peers peers' : List PeerValue) (same : (n : ℕ) → slice_get peers' n ≡ slice_get peers n) where
-  pub before_at : (n : ℕ) (p : PeerValue) → IsAt peers' n p → IsAt peers n p
-  before_at n p at = sym (same n) ∙ at
-
-  pub same_tied : AreTied peers → AreTied peers'
-  same_tied net = record {
-    apart = λ m n p q a b e. net.apart m n p q (before_at m p a) (before_at n q b) e;
-    tied = λ m n p q a b apart c. net.tied m n p q (before_at m p a) (before_at n q b) apart c;
-  }
-
-  pub same_agree : (id : Id) → KeepsAgreement peers peers' id
-  same_agree id agree whole = (λ m n p q a b. agree m n p q (before_at m p a) (before_at n q b), λ n p at. whole n p (before_at n p at))
-
 -- ---- a write in a network
 
 module _ (peers : List PeerValue) (place : ℕ) (d : Document) (peers' : List PeerValue) (w : IsChangedAt place (λ p. after_load p d) peers peers') where
-  abbrev pub after : PeerValue
+  abbrev after : PeerValue
   after = after_load w.before d
 
-  abbrev pub Where : ℕ → Type 0
-  Where n = (n ≡ place) ⊎ (n ≢ place)
-
-  pub where_is : (n : ℕ) → Where n
-  where_is n = elim (cases_Bool (n == place)) [ inl t ↦ inl (eqb-true n place t) | inr f ↦ inr (eqb-false n place f) ]
-
-  pub later : IsLaterPeer w.before after
-  later = load_later w.before d
-
-  pub after_is : (n : ℕ) (p : PeerValue) → IsAt peers' n p → n ≡ place → after ≡ p
-  after_is n p at e = one_peer peers' place after p w.at_then (subst (λ k. IsAt peers' k p) e at)
-
-  pub other_is : (n : ℕ) (p : PeerValue) → IsAt peers' n p → n ≢ place → IsAt peers n p
-  other_is n p at o = sym (w.others n o) ∙ at
-
-  -- each peer was at its place before
-  was_at : (n : ℕ) (p : PeerValue) → IsAt peers' n p → Where n → (q : PeerValue) × IsAt peers n q × IsLaterPeer q p
-  was_at n p at (inl e) = (w.before, subst (λ k. IsAt peers k w.before) (sym e) w.at, subst (IsLaterPeer w.before) (after_is n p at e) later)
-  was_at n p at (inr o) = (p, other_is n p at o, IsLaterPeer-same p)
-
-  module _ (net : AreTied peers) where
-    into : (p : PeerValue) (c : Choice) → IsTiedPair p w.before c → IsTiedPair p after c
-    into p c h = tied_call (λ _. false) p w.before c (Load d) tt later h
-
-    out_of : (q : PeerValue) (c : Choice) → IsTiedPair w.before q c → IsTiedPair after q c
-    out_of q c h = tied_source w.before after q c later.db refl h
-
-    pair_then : (m n : ℕ) (p q : PeerValue) → IsAt peers' m p → IsAt peers' n q → m ≢ n → (c : Choice) → Where m → Where n → IsTiedPair p q c
-    pair_then m n p q a b apart c (inl i) (inl j) = absurd (apart (i ∙ sym j))
-    pair_then m n p q a b apart c (inl i) (inr o) =
-        subst (λ x. IsTiedPair x q c) (after_is m p a i) (out_of q c (net.tied place n w.before q w.at (other_is n q b o) (λ e. o (sym e)) c))
-    pair_then m n p q a b apart c (inr o) (inl j) =
-        subst (λ x. IsTiedPair p x c) (after_is n q b j) (into p c (net.tied m place p w.before (other_is m p a o) w.at o c))
-    pair_then m n p q a b apart c (inr o) (inr t) = net.tied m n p q (other_is m p a o) (other_is n q b t) apart c
-
-    pub wrote_tied : AreTied peers'
-    wrote_tied = record {
-      apart = λ m n p q a b e.
-          (let x = was_at m p a (where_is m) in
-          let y = was_at n q b (where_is n) in
-          net.apart m n x.0 y.0 x.1 y.1 (sym x.2.db.uuid ∙ (e ∙ y.2.db.uuid)));
-      tied = λ m n p q a b apart c. pair_then m n p q a b apart c (where_is m) (where_is n);
-    }
-
-  -- ---- a document
+  before_at : (P : PeerValue → PeerValue → Type 0) → P w.before after → ((p : PeerValue) → P p p) → (n : ℕ) (p : PeerValue) → IsAt peers' n p → (q : PeerValue) × IsAt peers n q × P q p
+  before_at = was_at peers place w.before after peers' (becomes peers place (λ p. after_load p d) peers' w)
 
   tree_then : WrittenTree (tree_of w.before.db.docs d.id) d (tree_of after.db.docs d.id)
   tree_then = put_tree w.before.db d (next_local w.before)
 
-  other_tree : (id : Id) → bytes_eq d.id id ≡ false → tree_of after.db.docs id ≡ tree_of w.before.db.docs id
-  other_tree id apart = put_other w.before.db d (next_local w.before) id apart
-
   -- the tree of the written document at each peer
-  pub tree_at : (n : ℕ) (p : PeerValue) → IsAt peers' n p → Where n → (q : PeerValue) × IsAt peers n q × IsGrownBy (tree_of q.db.docs d.id) (tree_alone d) (tree_of p.db.docs d.id)
-  tree_at n p at (inl e) = (
-    w.before,
-    subst (λ k. IsAt peers k w.before) (sym e) w.at,
-    subst (λ (x : PeerValue). IsGrownBy (tree_of w.before.db.docs d.id) (tree_alone d) (tree_of x.db.docs d.id)) (after_is n p at e) (written_grown (tree_of w.before.db.docs d.id) d (tree_of after.db.docs d.id) tree_then),
-  )
-  tree_at n p at (inr o) = (p, other_is n p at o, IsGrownBy-same (tree_of p.db.docs d.id) (tree_alone d))
-
-  whole_at : AllWhole peers d.id → IsRootedAt peers place d → (n : ℕ) (p : PeerValue) → IsAt peers' n p → Where n → IsWhole (tree_of p.db.docs d.id)
-  whole_at whole rooted n p at (inl e) =
-      subst (λ (x : PeerValue). IsWhole (tree_of x.db.docs d.id)) (after_is n p at e) (written_whole (tree_of w.before.db.docs d.id) d (tree_of after.db.docs d.id) tree_then (whole place w.before w.at) (rooted w.before w.at))
-  whole_at whole rooted n p at (inr o) = whole n p (other_is n p at o)
+  pub tree_at : (n : ℕ) (p : PeerValue) → IsAt peers' n p → (q : PeerValue) × IsAt peers n q × IsGrownBy (tree_of q.db.docs d.id) (tree_alone d) (tree_of p.db.docs d.id)
+  tree_at = before_at (λ q p. IsGrownBy (tree_of q.db.docs d.id) (tree_alone d) (tree_of p.db.docs d.id)) (written_grown (tree_of w.before.db.docs d.id) d (tree_of after.db.docs d.id) tree_then) (λ p. IsGrownBy-same (tree_of p.db.docs d.id) (tree_alone d))
 
   pub wrote_whole : AllWhole peers d.id → IsRootedAt peers place d → AllWhole peers' d.id
-  wrote_whole whole rooted n p at = whole_at whole rooted n p at (where_is n)
+  wrote_whole whole rooted n p at =
+      let stays = λ (was : IsWhole (tree_of w.before.db.docs d.id)). written_whole (tree_of w.before.db.docs d.id) d (tree_of after.db.docs d.id) tree_then was (rooted w.before w.at) in
+      let x = before_at (λ q p. IsWhole (tree_of q.db.docs d.id) → IsWhole (tree_of p.db.docs d.id)) stays (λ _ was. was) n p at in
+      x.2 (whole n x.0 x.1)
 
   written_agree : AllAgree peers d.id → FitsIn peers d → AllAgree peers' d.id
   written_agree agree fits m n p q a b =
-      let x = tree_at m p a (where_is m) in
-      let y = tree_at n q b (where_is n) in
+      let x = tree_at m p a in
+      let y = tree_at n q b in
       Agree-both (tree_alone d) (tree_of x.0.db.docs d.id) (tree_of y.0.db.docs d.id) (tree_of p.db.docs d.id) (tree_of q.db.docs d.id) x.2 y.2
       (agree m n x.0 y.0 x.1 y.1) (fits m x.0 x.1) (turned (tree_of y.0.db.docs d.id) (tree_alone d) (fits n y.0 y.1))
 
   -- the tree of another document
-  pub same_at : (id : Id) → bytes_eq d.id id ≡ false → (n : ℕ) (p : PeerValue) → IsAt peers' n p → Where n → (q : PeerValue) × IsAt peers n q × (tree_of p.db.docs id ≡ tree_of q.db.docs id)
-  same_at id apart n p at (inl e) = (
-    w.before,
-    subst (λ k. IsAt peers k w.before) (sym e) w.at,
-    subst (λ (x : PeerValue). tree_of x.db.docs id ≡ tree_of w.before.db.docs id) (after_is n p at e) (other_tree id apart),
-  )
-  same_at id apart n p at (inr o) = (p, other_is n p at o, refl)
+  pub same_at : (id : Id) → bytes_eq d.id id ≡ false → (n : ℕ) (p : PeerValue) → IsAt peers' n p → (q : PeerValue) × IsAt peers n q × (tree_of p.db.docs id ≡ tree_of q.db.docs id)
+  same_at id apart = before_at (λ q p. tree_of p.db.docs id ≡ tree_of q.db.docs id) (put_other w.before.db d (next_local w.before) id apart) (λ _. refl)
 
   other_agree : (id : Id) → bytes_eq d.id id ≡ false → KeepsAgreement peers peers' id
   other_agree id apart agree whole = (
     λ m n p q a b.
-        (let x = same_at id apart m p a (where_is m) in
-        let y = same_at id apart n q b (where_is n) in
+        (let x = same_at id apart m p a in
+        let y = same_at id apart n q b in
         subst (λ s. Agree s (tree_of q.db.docs id)) (sym x.2) (subst (Agree (tree_of x.0.db.docs id)) (sym y.2) (agree m n x.0 y.0 x.1 y.1))),
-    λ n p at. (let x = same_at id apart n p at (where_is n) in subst IsWhole (sym x.2) (whole n x.0 x.1)),
+    λ n p at. (let x = same_at id apart n p at in subst IsWhole (sym x.2) (whole n x.0 x.1)),
   )
 
   pub wrote_agree : FitsIn peers d → IsRootedAt peers place d → (id : Id) → KeepsAgreement peers peers' id
   wrote_agree fits rooted id =
       elim (cases_Bool (bytes_eq d.id id)) [
-        | inl same ↦
-            subst (KeepsAgreement peers peers') ((bytes_eq-Decides d.id id).0 same)
-            (λ agree whole. (written_agree agree fits, λ n p at. whole_at whole rooted n p at (where_is n)))
+        | inl same ↦ subst (KeepsAgreement peers peers') ((bytes_eq-Decides d.id id).0 same) (λ agree whole. (written_agree agree fits, wrote_whole whole rooted))
         | inr apart ↦ other_agree id apart
       ]
 
@@ -188,28 +212,18 @@ module _ (peers : List PeerValue) (place : ℕ) (id : Id) (parent : Option RevId
   }
 
   -- the edit changes nothing
-  pub none_of : (why : BaseFault) → edited w.before.db id parent deleted body ≡ Err why → (n : ℕ) → slice_get peers' n ≡ slice_get peers n
-  none_of why is n =
-      elim (cases_Bool (n == place)) [
-        | inl t ↦
-            let here : n ≡ place = eqb-true n place t in
-            subst (λ m. slice_get peers' m ≡ slice_get peers m) (sym here) (subst (λ r. IsAt peers' place (load_edited w.before id deleted body r)) is w.at_then ∙ sym w.at)
-        | inr f ↦ w.others n (eqb-false n place f)
-      ]
-
-  edited_tied : AreTied peers → (r : Result (RevId × Option RevId) BaseFault) → edited w.before.db id parent deleted body ≡ r → AreTied peers'
-  edited_tied net (Ok e) is = wrote_tied peers place (edit_document id e deleted body) peers' (put_of e is) net
-  edited_tied net (Err why) is = same_tied peers peers' (none_of why is) net
-
-  pub edit_tied : AreTied peers → AreTied peers'
-  edit_tied net = edited_tied net (edited w.before.db id parent deleted body) refl
+  pub none_of : (why : BaseFault) → edited w.before.db id parent deleted body ≡ Err why → (n : ℕ) (p : PeerValue) → IsAt peers' n p → IsAt peers n p
+  none_of why is n p at =
+      let now = subst (λ r. IsAt peers' place (load_edited w.before id deleted body r)) is w.at_then in
+      let x = was_at peers place w.before w.before peers' (record { from = w.at; to = w.at; from_then = now; to_then = now; others = λ k o _. w.others k o }) (λ q p. q ≡ p) refl (λ _. refl) n p at in
+      subst (IsAt peers n) x.2 x.1
 
   edited_agree : EditFits peers place id parent deleted body → (at : Id) → (r : Result (RevId × Option RevId) BaseFault) → edited w.before.db id parent deleted body ≡ r → KeepsAgreement peers peers' at
   edited_agree fits at (Ok e) is =
       wrote_agree peers place (edit_document id e deleted body) peers' (put_of e is) (fits w.before w.at e is)
       (λ p here. subst (λ (x : PeerValue). IsRooted x.db (edit_document id e deleted body)) (one_peer peers place w.before p w.at here) (edit_rooted w.before.db id parent deleted body e is))
       at
-  edited_agree fits at (Err why) is = same_agree peers peers' (none_of why is) at
+  edited_agree fits at (Err why) is = λ agree whole. (λ m n p q a b. agree m n p q (none_of why is m p a) (none_of why is n q b), λ n p here. whole n p (none_of why is n p here))
 
   pub edit_agree : EditFits peers place id parent deleted body → (at : Id) → KeepsAgreement peers peers' at
   edit_agree fits at = edited_agree fits at (edited w.before.db id parent deleted body) refl

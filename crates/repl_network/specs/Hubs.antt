@@ -7,15 +7,25 @@ use Rattle.repl_target.specs.declared.replication.Plan.{Plan}
 use Rattle.repl_network.specs.declared.hop.Hop.{Hop}
 use Rattle.repl_network.specs.Nets.{AllAgree, AllWhole, IsRefusedNowhere, IsSameEverywhere}
 
--- The hops (replications) by which a hub's synchronization copies to the hub, one from each other peer.
-abbrev pub gathers : ℕ → List Plan → List Hop
-gathers n [] = []
-gathers n (plan ∷ plans) = record { from = n + 1; to = 0; plan = plan } ∷ gathers (n + 1) plans
+-- A hop (replication) for each plan of a list, in order. The function `hop` gives the hop of a peer's index and a plan,
+-- and n + 1 is the index for the first plan.
+abbrev pub hops_of : (ℕ → Plan → Hop) → ℕ → List Plan → List Hop
+hops_of hop n [] = []
+hops_of hop n (plan ∷ plans) = hop (n + 1) plan ∷ hops_of hop (n + 1) plans
 
--- The hops by which a hub's synchronization copies from the hub, one to each other peer.
+abbrev pub into_hub : ℕ → Plan → Hop
+into_hub n plan = record { from = n; to = 0; plan = plan }
+
+abbrev pub out_of_hub : ℕ → Plan → Hop
+out_of_hub n plan = record { from = 0; to = n; plan = plan }
+
+-- The hops (replications) into the hub from peer n + 1 and the following peers, one hop for each plan.
+abbrev pub gathers : ℕ → List Plan → List Hop
+gathers = hops_of into_hub
+
+-- The hops (replications) from the hub into peer n + 1 and the following peers, one hop for each plan.
 abbrev pub spreads : ℕ → List Plan → List Hop
-spreads n [] = []
-spreads n (plan ∷ plans) = record { from = 0; to = n + 1; plan = plan } ∷ spreads (n + 1) plans
+spreads = hops_of out_of_hub
 
 abbrev pub AllPlansChoose : List Plan → Id → Type 0
 AllPlansChoose [] id = Unit {0}

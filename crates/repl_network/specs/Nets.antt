@@ -1,24 +1,22 @@
 -- Defines networks of any number of peers, each at a numbered place, as specified in docs/PROFILE.md, "Nets", and in
 -- CouchDB, "Replication and conflict model". Replications between any two peers of a network may be made, in any order.
-use Rattle.std.specs.Prelude.{◌≡◌, ◌≢◌, ◌⊎◌, ℕ, ◌<◌, Bool, true, List, [], ◌∷◌, map, length, Option, Some, Ok, slice_get}
+use Rattle.std.specs.Prelude.{◌≡◌, ◌⊎◌, ℕ, ◌<◌, Bool, true, List, [], ◌∷◌, map, length, Option, Some, Ok, slice_get}
 use Rattle.rev_core.specs.Rev.{RevId}
 use Rattle.rev_tree.specs.Tree.{TreeValue, has, merged, no_revisions}
 use Rattle.rev_tree.specs.Agreement.{Agree, IsWhole, IsRoot}
 use Rattle.rev_tree.specs.declared.origin.Origin.TheVariants.{Local}
 use Rattle.doc_json.specs.Document.{Document}
-use Rattle.doc_json.specs.Chosen.{Choice, is_chosen}
+use Rattle.doc_json.specs.Chosen.{is_chosen}
 use Rattle.couch_base.specs.Database.{Id, DatabaseValue, tree_of}
 use Rattle.couch_base.specs.Put.{content_of}
 use Rattle.couch_base.specs.Edit.{edited, edit_document}
-use Rattle.repl_peer.specs.peer.Peer.{PeerValue, SessionValue}
+use Rattle.repl_peer.specs.peer.Peer.{PeerValue}
+use Rattle.repl_peer.specs.peer.Backups.{BackupValue}
 use Rattle.couch_base.specs.Lists.{Among}
-use Rattle.repl_log.specs.declared.replication.RepId.{RepId}
-use Rattle.repl_log.specs.Entry.{EntryValue}
-use Rattle.repl_log.specs.Logs.{log_in}
-use Rattle.repl_target.specs.ties.Ties.{IsTiedPair}
 use Rattle.repl_target.specs.replication.Replication.{SameDocument}
 use Rattle.repl_target.specs.replication.Sync.{HasRefusedNone}
 use Rattle.repl_network.specs.declared.hop.Hop.{Hop}
+use Rattle.repl_network.specs.Network.{AreConsistent, IsNetwork}
 
 -- The list of a network's peers, without the filters of these peers.
 abbrev pub peers_of : {F : Type 0} → List (F × PeerValue) → List PeerValue
@@ -32,11 +30,14 @@ filters_of peers = map (λ p. p.0) peers
 abbrev pub IsAt : List PeerValue → ℕ → PeerValue → Type 0
 IsAt peers n p = slice_get peers n ≡ Some p
 
+-- The list `backups` of a network has the backup b of the peer with index n.
+abbrev pub AreKept : List (ℕ × BackupValue) → ℕ → BackupValue → Type 0
+AreKept backups n b = Among (n, b) backups
+
 -- For every selection, every two peers of a network are consistent in both directions. No two peers of a network have
 -- the same UUID.
-pub record AreTied (peers : List PeerValue) : Type 0 where
-  pub apart : (m n : ℕ) (p q : PeerValue) → IsAt peers m p → IsAt peers n q → p.db.uuid ≡ q.db.uuid → m ≡ n
-  pub tied : (m n : ℕ) (p q : PeerValue) → IsAt peers m p → IsAt peers n q → m ≢ n → (c : Choice) → IsTiedPair p q c
+abbrev pub AreTied : List PeerValue → Type 0
+AreTied peers = AreConsistent (slice_get peers) (AreKept [])
 
 -- The peer at place n of the network has the UUID `uuid`.
 abbrev pub IsHeldAt : List PeerValue → ℕ → ℕ → Type 0
@@ -46,17 +47,9 @@ IsHeldAt peers uuid n = (p : PeerValue) × IsAt peers n p × (p.db.uuid ≡ uuid
 abbrev pub IsHeld : List PeerValue → ℕ → Type 0
 IsHeld peers uuid = (n : ℕ) × (p : PeerValue) × IsAt peers n p × (p.db.uuid ≡ uuid)
 
--- All sessions and logs of a network's peers belong to replications between two of these peers.
-pub record AreClosed (peers : List PeerValue) : Type 0 where
-  pub sessions : (n : ℕ) (p : PeerValue) → IsAt peers n p → (s : SessionValue) → Among s p.sessions
-      → IsHeld peers s.rep.source
-  pub logs : (n : ℕ) (p : PeerValue) → IsAt peers n p → (rep : RepId) (e : EntryValue) → Among e (log_in p.outgoing rep)
-      → IsHeld peers rep.target
-
--- The invariant of a network.
-pub record IsNet (peers : List PeerValue) : Type 0 where
-  pub tied : AreTied peers
-  pub closed : AreClosed peers
+-- The invariant of a network with the given backups.
+abbrev pub IsNet : List (ℕ × BackupValue) → List PeerValue → Type 0
+IsNet backups peers = IsNetwork (slice_get peers) (AreKept backups)
 
 -- ---- the peers' trees of one document
 
@@ -85,13 +78,14 @@ abbrev pub AllChoose : List Hop → Id → Type 0
 AllChoose [] id = Unit {0}
 AllChoose (h ∷ hops) id = (is_chosen h.plan.chosen id ≡ true) × AllChoose hops id
 
--- A chain of the listed hops leads from the place `from` to the place `to`. A chain consists of some of the listed
--- hops, in order. Each hop of a chain begins at the place at which the previous hop ends.
+-- A chain of hops in the list `hops` leads from the peer with index `from` to the peer with index `to`. A chain
+-- consists of some hops of a list, in order. Each hop of a chain begins at the peer at which the chain's previous hop
+-- ends.
 abbrev pub Leads : List Hop → ℕ → ℕ → Type 0
 Leads [] from to = from ≡ to
 Leads (h ∷ hops) from to = Leads hops from to ⊎ (from ≡ h.from) × Leads hops h.to to
 
--- For every two places, a chain of the listed hops leads from the first place to the second place.
+-- In a network of `count` peers, chains of hops in the list `hops` lead from every peer to every other peer.
 abbrev pub LeadsEverywhere : List Hop → ℕ → Type 0
 LeadsEverywhere hops count = (m n : ℕ) → m < count → n < count → Leads hops m n
 
@@ -99,10 +93,10 @@ LeadsEverywhere hops count = (m n : ℕ) → m < count → n < count → Leads h
 
 -- How consecutive hops change a document that each hop's plan selects and no peer has refused. Before the hops, the
 -- peers of the network must be consistent, and the document's trees must agree and have complete histories. If a chain
--- of hops (replications) leads from place m to place n, the peer at n gets all revisions of the document that the peer
--- at m had. If a chain of hops leads from every place to every other place, the document is then the same in all peers.
--- After the hops, the document's trees agree and have complete histories, and each revision in these trees was at some
--- peer before the hops.
+-- of hops (replications) leads from peer m to peer n, peer n gets all revisions of document `id` that peer m had. If
+-- chains of hops lead from every peer to every other peer, all peers have the same document `id` after the hops. After
+-- the hops, the document's trees agree and have complete histories, and each revision in these trees was at some peer
+-- before the hops.
 pub record Spreads (peers : List PeerValue) (hops : List Hop) (peers' : List PeerValue) (id : Id) : Type 0 where
   pub along : (m n : ℕ) (p q : PeerValue) → IsAt peers m p → IsAt peers' n q → Leads hops m n
       → (r : RevId) → has (tree_of p.db.docs id) r ≡ true → has (tree_of q.db.docs id) r ≡ true

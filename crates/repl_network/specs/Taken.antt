@@ -15,13 +15,14 @@ use Rattle.repl_target.specs.replication.Replication.{Replicates}
 use Rattle.repl_network.specs.declared.fault.NetFault.{NetFault}
 use Rattle.repl_network.specs.declared.fault.NetFault.TheVariants as faults
 use Rattle.repl_network.specs.declared.hop.Hop.{Hop}
+use Rattle.repl_network.specs.Network.{AreChanged}
 use Rattle.repl_network.specs.Nets.{IsAt, IsHeldAt, IsHeld}
 use Rattle.repl_network.specs.Hubs.{gathers, spreads}
 
 -- ---- replications
 
--- How a hop between two existing places changes the network. A hop is a replication on one thread, by the hop's plan. A
--- hop leaves peers at other places unchanged.
+-- How a hop between two different peers of the network changes the network. A hop is a replication on one thread, by
+-- the hop's plan. A hop changes only its source peer and its target peer.
 pub record IsHop {F : Type 0} (refuses : F → Document → Bool) (peers : List (F × PeerValue)) (hop : Hop)
     (result : Result Report TargetFault) (peers' : List (F × PeerValue)) : Type 0 where
   pub source : F × PeerValue
@@ -29,15 +30,13 @@ pub record IsHop {F : Type 0} (refuses : F → Document → Bool) (peers : List 
   pub source_then : PeerValue
   pub target_then : PeerValue
   pub two : hop.from ≢ hop.to
-  pub from : slice_get peers hop.from ≡ Some source
-  pub to : slice_get peers hop.to ≡ Some target
-  pub from_then : slice_get peers' hop.from ≡ Some (source.0, source_then)
-  pub to_then : slice_get peers' hop.to ≡ Some (target.0, target_then)
-  pub others : (n : ℕ) → n ≢ hop.from → n ≢ hop.to → slice_get peers' n ≡ slice_get peers n
+  pub changed : AreChanged (slice_get peers) hop.from hop.to source target (source.0, source_then) (target.0, target_then)
+      (slice_get peers')
+  pub open changed use *
   pub replicates : Replicates (refuses target.0) source.1 target.1 hop.plan result source_then target_then
 
--- The result of one hop (a replication between two peers of a network), which has the index `at` in a list of hops. A
--- hop first checks that its two places exist and differ, and then replicates.
+-- The result of the hop (replication between two peers) with the index `at` in a list of hops, and the network after
+-- the hop. A hop first checks that its source and its target exist and are different peers, and then replicates.
 pub data TakesHop {F : Type 0} (refuses : F → Document → Bool) (at : ℕ) (peers : List (F × PeerValue)) (hop : Hop)
     : Result Report NetFault → List (F × PeerValue) → Type 0 where
   no_source : length peers ≤ hop.from → TakesHop refuses at peers hop (Err (faults.NoPeer hop.from)) peers
@@ -79,8 +78,8 @@ abbrev pub told : {T : Type 0} → Result T BaseFault → Result T NetFault
 told (Ok done) = Ok done
 told (Err why) = Err (faults.Write why)
 
--- The result of a call at a place of the network: the result of the peer's call, or `NoPeer` if the place does not
--- exist.
+-- The result of a call on the peer with index `place`: the result of the peer's call, or `NoPeer` if no peer has this
+-- index.
 abbrev pub AnswersAt : {T : Type 0} → List PeerValue → ℕ → (PeerValue → Result T BaseFault → Type 0) → Result T NetFault
     → Type 0
 AnswersAt {T = T} peers place gives result =
@@ -95,8 +94,8 @@ IsNotAdded peers uuid why =
     ((place : ℕ) × IsHeldAt peers uuid place × (why ≡ faults.SameUuid place))
     ⊎ (¬ IsHeld peers uuid) × (why ≡ faults.Memory)
 
--- The result of an audit between two places of the network. An audit first checks that its two places exist, and then
--- audits the two peers.
+-- The result of an audit between two peers of the network, given by the indices `source` and `target`. The audit first
+-- checks that the source peer exists, then that the target peer exists, and then audits the two peers.
 abbrev pub Audits : List PeerValue → ℕ → ℕ → Choice → Result Audit NetFault → Type 0
 Audits peers source target chosen result =
     (length peers ≤ source) × (result ≡ Err (faults.NoPeer source))

@@ -1,5 +1,6 @@
 //! Replications in a network.
-ghost use Rattle.std.specs.Prelude.{◌≡◌, Bool, ◌≢◌, ◌<◌, ◌≤◌, length, OnOk, OnErr, slice_get};
+ghost use Rattle.std.specs.Prelude.{◌≡◌, ℕ, Bool, List, ◌≢◌, ◌<◌, ◌≤◌, length, OnOk, OnErr, slice_get};
+ghost use Rattle.repl_peer.specs.peer.Backups.{BackupValue};
 ghost use Rattle.repl_network.specs.Nets.{peers_of, filters_of, AreTied, IsNet, Spread, FitsIn, IsRootedAt, EditFits, KeepsAgreement};
 ghost use Rattle.repl_network.specs.Made.{StaysMade, StaysMadeByEdit, StaysMadeExcept};
 ghost use Rattle.repl_network.specs.Hopped.{Carried, Hopped, Ended, AllHopped, AllLawful, IsChangedAt};
@@ -23,11 +24,12 @@ use std::alloc::Global;
 /// Performs hops (replications between two peers of a network) in order, until a hop fails. Each hop is a call of
 /// `replicate_alone` with the hop's plan.
 ///
-/// If every two peers are consistent (docs/PROFILE.md, "Nets"), they stay consistent, even if the call fails. Let d be
-/// a document that each plan selects and no peer has refused, and whose trees agreed and had complete histories before
-/// the call. If every two peers are consistent and the call succeeds, the trees of document d at all peers still agree
-/// and have complete histories. If chains of hops also lead from every peer to every other peer, all peers have the
-/// same document d with the same winner after the call.
+/// If every two peers are consistent (docs/PROFILE.md, "Nets"), they stay consistent, even if the call fails. A
+/// document is *selected* if the plan of every hop selects it, and no peer has refused it when the call returns. A
+/// successful call on consistent peers keeps the trees of a selected document in agreement and with complete histories.
+/// If chains of hops lead from every peer to every other peer, a successful call on consistent peers makes a selected
+/// document with agreeing, complete trees the same everywhere. A document that is the same at all peers has the same
+/// winner at all peers.
 pub fn replicate_along<F: WriteFilter>(
     alloc: Global,
     peers: &mut [Peer<F>],
@@ -36,7 +38,8 @@ pub fn replicate_along<F: WriteFilter>(
     ensures taken { TakesHops F.refuses 0 peers.old hops.now result peers.new }
     ensures filters { filters_of peers.new ≡ filters_of peers.old }
     ensures tied { AreTied (peers_of peers.old) → AreTied (peers_of peers.new) }
-    ensures net { IsNet (peers_of peers.old) → IsNet (peers_of peers.new) }
+    ensures net { (backups : List (ℕ × BackupValue)) → IsNet backups (peers_of peers.old)
+        → IsNet backups (peers_of peers.new) }
     ensures made { StaysMade (peers_of peers.old) (peers_of peers.new) }
     ensures spread { OnOk result
         (AreTied (peers_of peers.old) → Spread (peers_of peers.old) hops.now (peers_of peers.new)) }
@@ -52,11 +55,11 @@ pub fn replicate_along<F: WriteFilter>(
 
 /// Stores a user's document at one peer of a network (`Peer::load`).
 ///
-/// If every two peers are consistent, they stay consistent, even if the call fails. If the document's trees agreed and
-/// had complete histories before the call, the trees still agree and have complete histories after the call under two
-/// conditions. The first condition is that no revision has different parents or different contents in a peer's tree and
-/// in the stored document. The second condition is that the ancestry of the stored document is complete, or that the
-/// ancestry's oldest revision is in the tree of the peer that stores the document.
+/// If every two peers are consistent, they stay consistent, even if the call fails. `load_at` keeps each document's
+/// trees in agreement and with complete histories if the stored document agrees with each peer's tree and is complete
+/// at the storing peer. The stored document agrees with a tree if no revision has different parents or different
+/// contents in the document and in the tree. The stored document is complete at a peer if its ancestry is complete, or
+/// if the peer's tree has the ancestry's oldest revision.
 pub fn load_at<F: WriteFilter>(
     peers: &mut [Peer<F>],
     place: usize,
@@ -65,7 +68,8 @@ pub fn load_at<F: WriteFilter>(
     ensures answer { AnswersAt (peers_of peers.old) place (λ p r. PutGives r (put_answer p.db doc.now)) result }
     ensures filters { filters_of peers.new ≡ filters_of peers.old }
     ensures tied { AreTied (peers_of peers.old) → AreTied (peers_of peers.new) }
-    ensures net { IsNet (peers_of peers.old) → IsNet (peers_of peers.new) }
+    ensures net { (backups : List (ℕ × BackupValue)) → IsNet backups (peers_of peers.old)
+        → IsNet backups (peers_of peers.new) }
     ensures ok { OnOk result (IsChangedAt place (λ p. after_load p doc.now) (peers_of peers.old) (peers_of peers.new)) }
     ensures err { OnErr result (peers_of peers.new ≡ peers_of peers.old) }
     ensures made { StaysMadeExcept doc.now.id (peers_of peers.old) (peers_of peers.new) }
@@ -84,9 +88,9 @@ pub fn load_at<F: WriteFilter>(
 /// Edits a document at one peer of a network (`Peer::edit`).
 ///
 /// If every two peers are consistent, they stay consistent, even if the call fails. The edit keeps the document's trees
-/// in agreement and with complete histories, unless a peer has the new revision with another parent or content. If all
-/// revisions of the document come from edits, a peer has the new revision with another parent or content only if two
-/// different edits have the same MD5.
+/// in agreement and with complete histories, unless a peer has the new revision with another parent or content. If only
+/// edits made a document, a peer has an edit's new revision with another parent or content only if two different edits
+/// have the same MD5.
 pub fn edit_at<F: WriteFilter>(
     peers: &mut [Peer<F>],
     place: usize,
@@ -99,7 +103,8 @@ pub fn edit_at<F: WriteFilter>(
         (λ p r. EditGives r (edit_answer p.db id.now parent deleted body.now)) result }
     ensures filters { filters_of peers.new ≡ filters_of peers.old }
     ensures tied { AreTied (peers_of peers.old) → AreTied (peers_of peers.new) }
-    ensures net { IsNet (peers_of peers.old) → IsNet (peers_of peers.new) }
+    ensures net { (backups : List (ℕ × BackupValue)) → IsNet backups (peers_of peers.old)
+        → IsNet backups (peers_of peers.new) }
     ensures ok { OnOk result
         (IsChangedAt place (λ p. after_edit p id.now parent deleted body.now) (peers_of peers.old) (peers_of peers.new)) }
     ensures err { OnErr result (peers_of peers.new ≡ peers_of peers.old) }
@@ -135,7 +140,8 @@ fn take_hop<F: WriteFilter>(
     ensures taken { TakesHop F.refuses at peers.old hop.now result peers.new }
     ensures filters { filters_of peers.new ≡ filters_of peers.old }
     ensures tied { AreTied (peers_of peers.old) → AreTied (peers_of peers.new) }
-    ensures net { IsNet (peers_of peers.old) → IsNet (peers_of peers.new) }
+    ensures net { (backups : List (ℕ × BackupValue)) → IsNet backups (peers_of peers.old)
+        → IsNet backups (peers_of peers.new) }
     ensures made { StaysMade (peers_of peers.old) (peers_of peers.new) }
     ensures ended { OnOk result (Ended (peers_of peers.old) hop.now (peers_of peers.new)) }
 {

@@ -1,5 +1,6 @@
 //! Replication through a hub, the first peer of a network.
-ghost use Rattle.std.specs.Prelude.{◌≡◌, ◌+◌, ◌++◌, length, IfOk, OnOk};
+ghost use Rattle.std.specs.Prelude.{◌≡◌, ℕ, List, ◌+◌, ◌++◌, length, IfOk, OnOk};
+ghost use Rattle.repl_peer.specs.peer.Backups.{BackupValue};
 ghost use Rattle.repl_network.specs.Nets.{peers_of, filters_of, AreTied, IsNet};
 ghost use Rattle.repl_network.specs.Made.{StaysMade};
 ghost use Rattle.repl_network.specs.Hubs.{gathers, spreads, HubSpread};
@@ -15,10 +16,10 @@ use std::alloc::{AllocError, Global};
 /// thread performs all replications, two for each peer other than the hub. For each direction, the caller gives a plan
 /// for each peer other than the hub, in order.
 ///
-/// If every two peers are consistent, they stay consistent, even if the call fails. Suppose that all plans select a
-/// document, no peer has refused this document, and the document's trees agreed and had complete histories before the
-/// call. If the call succeeds, all peers then have the same document, and the document's trees still agree and have
-/// complete histories.
+/// If every two peers are consistent, they stay consistent, even if the call fails. A document is *selected* if all
+/// plans in both directions select it, and no peer has refused it when the call returns. A successful call on
+/// consistent peers makes a selected document with agreeing, complete trees the same at all peers. A successful call on
+/// consistent peers keeps the trees of a selected document in agreement and with complete histories.
 ///
 /// # Errors
 ///
@@ -34,7 +35,8 @@ pub fn sync_by_hub<F: WriteFilter>(
     ensures taken { TakesHub F.refuses peers.old there.now back.now result peers.new }
     ensures filters { filters_of peers.new ≡ filters_of peers.old }
     ensures tied { AreTied (peers_of peers.old) → AreTied (peers_of peers.new) }
-    ensures net { IsNet (peers_of peers.old) → IsNet (peers_of peers.new) }
+    ensures net { (backups : List (ℕ × BackupValue)) → IsNet backups (peers_of peers.old)
+        → IsNet backups (peers_of peers.new) }
     ensures made { StaysMade (peers_of peers.old) (peers_of peers.new) }
     ensures same { OnOk result
         (AreTied (peers_of peers.old) → HubSpread (peers_of peers.old) there.now back.now (peers_of peers.new)) }

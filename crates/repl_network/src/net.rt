@@ -24,7 +24,7 @@ pub struct Net<F: WriteFilter> {
 }
 
 impl<F: WriteFilter> Model for Net<F> {
-    ghost use Rattle.std.specs.Prelude.{List};
+    ghost use Rattle.std.specs.Prelude.{List, []};
     ghost use Rattle.std.specs.Coded.{coded×, coded_list};
     ghost use Rattle.repl_peer.specs.peer.Peer.{PeerValue};
     ghost use Rattle.repl_peer.specs.peer.PeerCode.{coded_peer};
@@ -36,11 +36,11 @@ impl<F: WriteFilter> Model for Net<F> {
 
     ghost view = { λ n. n.peers.items };
 
-    ghost invariant = { λ n. IsNet (peers_of n.peers.items) };
+    ghost invariant = { λ n. IsNet [] (peers_of n.peers.items) };
 }
 
 impl<F: WriteFilter> Net<F> {
-    ghost use Rattle.std.specs.Prelude.{◌≢◌, Bool, List, Option, length, slice_get, IfOk, IfErr};
+    ghost use Rattle.std.specs.Prelude.{Bool, List, Option, length, slice_get, IfOk, IfErr};
     ghost use Rattle.std.specs.Option.{option_copied};
     ghost use Rattle.couch_base.specs.Database.{Id};
     ghost use Rattle.repl_peer.specs.peer.Peer.{new_peer};
@@ -98,7 +98,7 @@ impl<F: WriteFilter> Net<F> {
     /// Has no effect at run time, but gives proofs the invariant of the network. If a document was made only by edits,
     /// and no two different edits have the same MD5, then all trees of that document agree and have complete histories.
     pub fn law(&self)
-        ensures net { IsNet (peers_of self.now) }
+        ensures net { IsNet [] (peers_of self.now) }
         ensures agree { MadeAgree (peers_of self.now) }
     {
         let _ = &self.peers;
@@ -164,7 +164,7 @@ impl<F: WriteFilter> Net<F> {
         sync_by_hub(alloc, &mut self.peers, there, back)
     }
 
-    /// Audits the replication between two peers. If the two indices differ, the result of the audit is always `Clean`.
+    /// Audits the replication between two peers. The result of the audit is always `Clean`.
     pub fn audit(
         &self,
         alloc: Global,
@@ -173,7 +173,7 @@ impl<F: WriteFilter> Net<F> {
         chosen: Option<&Chosen>,
     ) -> Result<Audit, NetFault>
         ensures answer { Audits (peers_of self.now) source target (option_copied chosen.entry) result }
-        ensures clean { IfOk result (λ found. source ≢ target → found ≡ Clean) }
+        ensures clean { IfOk result (λ found. found ≡ Clean) }
     {
         self.law();
         let Some(from) = self.peer(source) else {

@@ -1,21 +1,13 @@
-pub mod TableLemmas
-pub mod NamedLemmas
-pub mod IndexLemmas
-pub mod ReplicationLemmas
+pub mod Tables
 pub mod BackupLemmas
-pub mod BackupNames
-pub mod ties
-pub use TableLemmas.{contains_key-by_text, found_absent, found_there, written}
-pub use NamedLemmas.{edit_refused, on_err, peer_absent, peer_there, put_refused, state_changed, state_stays, tables_stay}
-pub use IndexLemmas.{deny_added, edit_keeps, found_at, index_added, index_none, load_keeps, none_deny, state_with}
-pub use ReplicationLemmas.{alone_refused, deny_left, has_source, has_target, index_left, other, plan_names, refuses_is, run_denied, run_names}
-pub use ReplicationLemmas.{run_refused, state_left, still_there, watched_refused}
-pub use BackupLemmas.{copy_refused, restore_keeps, taken_refused}
-pub use BackupNames.{copies_of-append, lookup-among}
-pub use ties.ByOneThread.{alone_fails, alone_left}
-pub use ties.ByPool.{pool_fails, pool_left, watched_fails, watched_left}
-pub use ties.Calls.{alone_between, backed_tied, drawn_left, edited_tied, loaded_tied, none_left, pool_between, put_back_tied, same_Ok}
-pub use ties.Calls.{unchanged_tied, watched_between}
-pub use ties.LaterStates.{none_are_tied}
-pub use ties.OneChanged.{edit_tied, load_tied, own_uuid}
-pub use ties.OneMore.{drawn_tied, made_tied}
+pub mod Networks
+pub mod NamedLemmas
+pub mod ReplicationLemmas
+pub mod Covering
+pub use Tables.{at_of, deny_one, differ, has_at, names_apart, one_inserted, one_updated, peer_of, state_one, still_both, still_there, two_updated}
+pub use Tables.{index_added, index_none, lawful_of, refuses_is}
+pub use Networks.{added_step, backed_is, backed_step, empty_consistent, is_added, no_peers, own_uuid, restore_step, restore_uuid, tied_pair}
+pub use BackupLemmas.{copies_of-append, copy_refused, lookup-among, taken_refused}
+pub use NamedLemmas.{changes, edit_gives, load_gives, restore_gives, same_Ok, stays, stored, stored_written, writes_of}
+pub use ReplicationLemmas.{alone_refused, plan_apart, run_apart, run_denied, run_refused, state_left, stored_both, watched_refused}
+pub use Covering.{Brings, alone_between, alone_brings, alone_fails, brought, pool_between, pool_brings, pool_fails, watched_between, watched_brings, watched_fails}

@@ -1,10 +1,11 @@
 //! The databases of a script.
-ghost use Rattle.std.specs.Prelude.{◌≡◌, [], false, true, None, IfOk, OnErr, OnOk, option_map};
+ghost use Rattle.std.specs.Prelude.{◌≡◌, [], false, true, None, Err, IfOk, OnErr, OnOk, option_map};
 ghost use Rattle.std.specs.FinMap.{contains_key};
 ghost use Rattle.std.specs.Option.{option_copied};
-ghost use Rattle.script_databases.specs.AllTied.{AllTied, CoversUpTo};
-ghost use Rattle.script_databases.specs.Databases.{State, coded_state};
-ghost use Rattle.script_databases.specs.Stored.{IsIndex, AllDeny, beside_of, program_of, state_of};
+ghost use Rattle.script_databases.specs.Consistent.{CoversUpTo, IsConsistent, IsStored};
+ghost use Rattle.script_databases.specs.Databases.{State, coded_state, edited_as, put_back_of};
+ghost use Rattle.script_databases.specs.Refusals.{base_refusal, target_refusal, told_as};
+ghost use Rattle.script_databases.specs.Stored.{beside_of, program_of, state_of};
 
 use crate::backups::{BackupName, Backups};
 use crate::made_ids::MadeIds;
@@ -12,7 +13,7 @@ use crate::pair::{find_both, put_in, take_out};
 use crate::refusal::Refusal;
 use crate::settings::Settings;
 use crate::watched::{Watched, board_for, with_reading};
-use couch_base::Put;
+use couch_base::{BaseFault, Put};
 use doc_json::{Body, Doc, DocId};
 use indexmap::{IndexMap, IndexSet};
 use repl_pool::{Open, PoolFault, Progress, Ran, check_run, run, run_on};
@@ -41,7 +42,8 @@ pub struct PutBack {
 pub type Names = IndexMap<String, Peer<Rules>>;
 
 /// The databases of a script: peers by name, an index of their UUIDs, and the number of generated ids. All peers have
-/// the write filter from the settings.
+/// the write filter from the settings. All databases are consistent with each other after every call, even if the call
+/// fails (`law`).
 pub struct Databases {
     settings: Settings,
     by_name: Names,
@@ -52,8 +54,8 @@ pub struct Databases {
     backups: Backups,
 }
 
-// This type has no `#[derive(Drop)]`, so that the code that drops its values is proved only once (docs/DECISIONS.md,
-// "Letting values go").
+// `Drop` is implemented by hand because the derived code would be proved again in each crate that owns a `Databases`
+// (docs/DECISIONS.md, "Letting values go").
 impl Drop for Databases {
     fn drop(self) {
         let Databases {
@@ -73,8 +75,7 @@ impl Model for Databases {
 
     ghost view = { λ a. state_of (beside_of a.settings a.drawn a.backups) a.by_name.entries };
 
-    ghost invariant = { λ a. IsIndex (state_of (beside_of a.settings a.drawn a.backups) a.by_name.entries) a.uuids.keys
-        × AllDeny (program_of a.settings).deny a.by_name.entries };
+    ghost invariant = { λ a. IsStored (beside_of a.settings a.drawn a.backups) a.by_name.entries a.uuids.keys };
 }
 
 impl Databases {
@@ -84,11 +85,9 @@ impl Databases {
     ghost use Rattle.script_databases.specs.Refusals.{GivesOrMemory};
     ghost use Rattle.script_databases.specs.Replications.{ReplicatesAlone, ReplicatesBetween, ReplicatesByPool, ReplicatesWatched};
 
-    /// Creates an empty set of databases, with a copy of the settings. The empty set of databases is consistent
-    /// (`AllTied`).
+    /// Creates an empty set of databases, with a copy of the settings.
     pub fn new(alloc: Global, settings: &Settings) -> Result<Databases, AllocError>
         ensures none { IfOk result (λ databases. databases ≡ no_databases (program_of settings.now)) }
-        ensures tied { IfOk result (λ databases. AllTied databases) }
     {
         let settings = settings.copy(alloc)?;
         Ok(Databases {
@@ -98,6 +97,14 @@ impl Databases {
             drawn: 0,
             backups: Backups::new(alloc),
         })
+    }
+
+    /// Has no effect at run time, but gives proofs the invariant of the databases: all databases are consistent with
+    /// each other (docs/PROFILE.md, "Tied databases").
+    pub fn law(&self)
+        ensures { IsConsistent self.now }
+    {
+        let _ = &self.drawn;
     }
 
     /// Returns the settings of the program.
@@ -133,7 +140,6 @@ impl Databases {
     pub fn draw(&mut self) -> u128
         ensures id { result ≡ next_made self.old }
         ensures drawn { self.new ≡ drawn_one self.old }
-        ensures tied { AllTied self.old → AllTied self.new }
     {
         let mut ids = MadeIds {
             seed: self.settings.seed,
@@ -155,20 +161,19 @@ impl Databases {
         Ok(Peer::new(alloc, uuid, Rules { deny }))
     }
 
-    /// Adds a peer under an unused name. The peer must have the filter from the settings.
-    ///
-    /// All databases stay consistent if the added peer has no sessions and no logs, and no other database has the
-    /// peer's UUID.
+    /// Adds a peer under an unused name. The peer must have the filter from the settings, no sessions, no logs, and a
+    /// UUID that no database has.
     pub fn add(&mut self, alloc: Global, name: &str, peer: Peer<Rules>) -> Result<(), AllocError>
         requires absent { peer_at self.old name.now ≡ None }
         requires filter { deny_of peer.0 ≡ self.old.program.deny }
+        requires fresh { IsTaken self.old peer.1.db.uuid → ⊥ }
+        requires unused { (peer.1.sessions ≡ []) × (peer.1.outgoing ≡ []) }
         ensures ok { OnOk result (self.new ≡ with_peer self.old name.now peer.1) }
         ensures err { OnErr result (self.new ≡ self.old) }
-        ensures tied { (IsTaken self.old peer.1.db.uuid → ⊥) → peer.1.sessions ≡ [] → peer.1.outgoing ≡ []
-            → AllTied self.old → AllTied self.new }
     {
         let key = String::from_str(alloc, name)?;
         let uuid = peer.db().uuid();
+        peer.law();
         self.by_name.reserve(1)?;
         self.uuids.insert(uuid)?;
         self.by_name.insert(key, peer)?;
@@ -184,13 +189,13 @@ impl Databases {
         ensures answer { GivesOrMemory result (load_answer (peer_at self.old name.now) doc.now) }
         ensures ok { OnOk result (self.new ≡ loaded_at self.old name.now doc.now) }
         ensures err { OnErr result (self.new ≡ self.old) }
-        ensures tied { AllTied self.old → AllTied self.new }
     {
         let Some(peer) = self.by_name.get_mut(name) else {
             return Err(Refusal::NoDatabase);
         };
-        let put = peer.load(doc)?;
-        Ok(put)
+        let answer = peer.load(doc);
+        peer.law();
+        load_told(answer)
     }
 
     /// Edits a document of a database.
@@ -210,14 +215,13 @@ impl Databases {
             (edited_answer (peer_at self.old name.now) id.now parent deleted body.now) }
         ensures ok { OnOk result (self.new ≡ edited_at self.old name.now id.now parent deleted body.now) }
         ensures err { OnErr result (self.new ≡ self.old) }
-        ensures tied { AllTied self.old → AllTied self.new }
     {
         let Some(peer) = self.by_name.get_mut(name) else {
             return Err(Refusal::NoDatabase);
         };
-        let rev = peer.edit(id, parent, deleted, body)?;
-        let seq = peer.db().update_seq();
-        Ok(Edited { rev, seq })
+        let answer = peer.edit(id, parent, deleted, body);
+        peer.law();
+        edit_told(peer, answer)
     }
 
     /// Saves a backup of the database `db` under a name. Returns the update sequence of the backup (docs/PROFILE.md,
@@ -231,9 +235,8 @@ impl Databases {
         ensures answer { GivesOrMemory result (backed_told (backed_answer self.old db.now name.now)) }
         ensures ok { OnOk result (self.new ≡ backed_at self.old db.now name.now) }
         ensures err { OnErr result (self.new ≡ self.old) }
-        ensures tied { AllTied self.old → AllTied self.new }
     {
-        let Some(peer) = self.by_name.get(db) else {
+        let Some(peer) = self.find(db) else {
             return Err(Refusal::NoDatabase);
         };
         let key = BackupName::new(alloc, db, name)?;
@@ -254,31 +257,44 @@ impl Databases {
     ///
     /// # Errors
     ///
-    /// The call first checks for `NoDatabase` (the name is unknown), and then for `NoBackup` (the database has no
-    /// backup of this name). The call then checks for `IsTarget` (the database has been a replication target), and last
-    /// for `LifeFull` (no life is left).
+    /// Checked in this order:
+    ///
+    /// - `NoDatabase`: no database has the name `db`.
+    /// - `NoBackup`: the database has no backup of the name `name`.
+    /// - `IsTarget`: the database has been a replication target.
+    /// - `LifeFull`: no life is left for the restored database.
     pub fn put_back(&mut self, db: &str, name: &str) -> Result<PutBack, Refusal>
         ensures answer { GivesOrMemory result
             (put_back_answer (peer_at self.old db.now) (backup_at self.old db.now name.now)) }
         ensures ok { OnOk result (self.new ≡ put_back_by self.old db.now (backup_at self.old db.now name.now)) }
         ensures err { OnErr result (self.new ≡ self.old) }
-        ensures tied { AllTied self.old → AllTied self.new }
     {
         let alloc = *self.by_name.allocator();
         let key = BackupName::new(alloc, db, name)?;
+        let Some(backup) = self.backups.find(&key) else {
+            return Err(self.missing(db));
+        };
         let Some(peer) = self.by_name.get_mut(db) else {
             return Err(Refusal::NoDatabase);
         };
-        let Some(backup) = self.backups.find(&key) else {
-            return Err(Refusal::NoBackup);
-        };
-        peer.restore(backup)?;
-        let seq = peer.db().update_seq();
-        let life = peer.db().life();
-        Ok(PutBack { seq, life })
+        let answer = peer.restore(backup);
+        peer.law();
+        restore_told(peer, answer)
     }
 
-    /// Replicates between two existing databases with the pool. The call blocks until the run has ended.
+    /// Returns the reason why a backup does not exist: `NoBackup`, or `NoDatabase` if the name of its database is
+    /// unknown.
+    fn missing(&self, db: &str) -> Refusal
+        ensures { Err result ≡ put_back_answer (peer_at self.now db.now) None }
+    {
+        match self.find(db) {
+            Some(_) => Refusal::NoBackup,
+            None => Refusal::NoDatabase,
+        }
+    }
+
+    /// Replicates from one existing database to another with a pool of threads. `replicate` blocks until the
+    /// replication has ended.
     ///
     /// A plan that is rejected at the start changes nothing. A replication from a database to itself is rejected
     /// at the start.
@@ -293,12 +309,10 @@ impl Databases {
         requires source { contains_key self.old.peers source.now ≡ true }
         requires target { contains_key self.old.peers target.now ≡ true }
         ensures between { ReplicatesBetween ReplicatesByPool self.old source.now target.now plan.now result self.new }
-        ensures tied { AllTied self.old → AllTied self.new }
-        ensures covered { IfOk result (λ report. AllTied self.old
-            → CoversUpTo self.new source.now target.now plan.now.chosen report.recorded) }
+        ensures covered { IfOk result
+            (λ report. CoversUpTo self.new source.now target.now plan.now.chosen report.recorded) }
     {
         let (sender, receiver) = find_both(&self.by_name, source, target);
-        receiver.law();
         check_run(sender, receiver, plan)?;
         let (sender, receiver) = take_out(&mut self.by_name, alloc, source, target);
         let Ran {
@@ -308,6 +322,8 @@ impl Databases {
             seats: _,
             outcome,
         } = run(rt, alloc, sender, receiver, plan, &Open);
+        sender.law();
+        receiver.law();
         put_in(&mut self.by_name, source, target, sender, receiver);
         outcome
     }
@@ -330,12 +346,10 @@ impl Databases {
         requires source { contains_key self.old.peers source.now ≡ true }
         requires target { contains_key self.old.peers target.now ≡ true }
         ensures between { ReplicatesBetween ReplicatesWatched self.old source.now target.now plan.now result self.new }
-        ensures tied { AllTied self.old → AllTied self.new }
-        ensures covered { IfOk result (λ watched. AllTied self.old
-            → CoversUpTo self.new source.now target.now plan.now.chosen watched.report.recorded) }
+        ensures covered { IfOk result
+            (λ watched. CoversUpTo self.new source.now target.now plan.now.chosen watched.report.recorded) }
     {
         let (sender, receiver) = find_both(&self.by_name, source, target);
-        receiver.law();
         check_run(sender, receiver, plan)?;
         let (board, seats, mut viewer) = board_for(alloc, plan.workers)?;
         let progress = Progress {
@@ -350,11 +364,13 @@ impl Databases {
             seats: _,
             outcome,
         } = run_on(rt, alloc, sender, receiver, plan, &Open, progress);
+        sender.law();
+        receiver.law();
         put_in(&mut self.by_name, source, target, sender, receiver);
         with_reading(&board, &mut viewer, outcome)
     }
 
-    /// Replicates between two existing databases with one thread.
+    /// Replicates from one existing database to another with one thread.
     ///
     /// A plan that is rejected at the start changes nothing. A replication from a database to itself is rejected
     /// at the start.
@@ -368,9 +384,8 @@ impl Databases {
         requires source { contains_key self.old.peers source.now ≡ true }
         requires target { contains_key self.old.peers target.now ≡ true }
         ensures between { ReplicatesBetween ReplicatesAlone self.old source.now target.now plan.now result self.new }
-        ensures tied { AllTied self.old → AllTied self.new }
-        ensures covered { IfOk result (λ report. AllTied self.old
-            → CoversUpTo self.new source.now target.now plan.now.chosen report.recorded) }
+        ensures covered { IfOk result
+            (λ report. CoversUpTo self.new source.now target.now plan.now.chosen report.recorded) }
     {
         let (sender, receiver) = find_both(&self.by_name, source, target);
         check_peers(sender, receiver, plan)?;
@@ -378,7 +393,45 @@ impl Databases {
         sender.law();
         receiver.law();
         let outcome = replicate_alone(alloc, &mut sender, &mut receiver, plan);
+        sender.law();
+        receiver.law();
         put_in(&mut self.by_name, source, target, sender, receiver);
         outcome
+    }
+}
+
+/// Returns the result of a load with the name of its error.
+fn load_told(answer: Result<Put, BaseFault>) -> Result<Put, Refusal>
+    ensures { result ≡ told_as base_refusal answer }
+{
+    match answer {
+        Ok(put) => Ok(put),
+        Err(fault) => Err(Refusal::from(fault)),
+    }
+}
+
+/// Returns the result of an edit of a peer: the new revision with the peer's update sequence, or the error.
+fn edit_told(peer: &Peer<Rules>, answer: Result<Rev, BaseFault>) -> Result<Edited, Refusal>
+    ensures { result ≡ edited_as peer.now.1 answer }
+{
+    match answer {
+        Ok(rev) => Ok(Edited {
+            rev,
+            seq: peer.db().update_seq(),
+        }),
+        Err(fault) => Err(Refusal::from(fault)),
+    }
+}
+
+/// Returns the result of a restore: the peer's update sequence and life, or the error.
+fn restore_told(peer: &Peer<Rules>, answer: Result<(), TargetFault>) -> Result<PutBack, Refusal>
+    ensures { result ≡ put_back_of peer.now.1 (told_as target_refusal answer) }
+{
+    match answer {
+        Ok(()) => Ok(PutBack {
+            seq: peer.db().update_seq(),
+            life: peer.db().life(),
+        }),
+        Err(fault) => Err(Refusal::from(fault)),
     }
 }

@@ -1,7 +1,9 @@
 //! Functions that look up two peers, take the peers out of the table, and store the peers after a run.
 ghost use Rattle.std.specs.Prelude.{◌≡◌, ◌≢◌, true, Some};
-ghost use Rattle.std.specs.FinMap.{contains_key, get, insert};
-ghost use Rattle.script_databases.specs.Stored.{deny_of, denied_of, peers_of, IsEmptied};
+ghost use Rattle.std.specs.FinMap.{contains_key};
+ghost use Rattle.repl_peer.specs.peer.Peer.{PeerValue};
+ghost use Rattle.repl_peer.specs.declared.peer.filter.Rules.{Rules};
+ghost use Rattle.script_databases.specs.Stored.{IsWithBoth, entry_at, peers_of};
 
 use crate::databases::Names;
 use repl_target::{Peer, Rules};
@@ -16,9 +18,8 @@ pub fn find_both<'a>(
 ) -> (&'a Peer<Rules>, &'a Peer<Rules>)
     requires source { contains_key (peers_of names.now.entries) source.now ≡ true }
     requires target { contains_key (peers_of names.now.entries) target.now ≡ true }
-    ensures source { get (peers_of names.now.entries) source.now ≡ Some result.0.now.1 }
-    ensures target { (get (peers_of names.now.entries) target.now ≡ Some result.1.now.1)
-        × (get (denied_of names.now.entries) target.now ≡ Some (deny_of result.1.now.0)) }
+    ensures source { entry_at names.now.entries source.now ≡ Some result.0.now }
+    ensures target { entry_at names.now.entries target.now ≡ Some result.1.now }
 {
     let Some(sender) = names.get(source) else {
         unreachable!()
@@ -39,11 +40,12 @@ pub fn take_out(
     requires source { contains_key (peers_of names.old.entries) source.now ≡ true }
     requires target { contains_key (peers_of names.old.entries) target.now ≡ true }
     requires two { source.now ≢ target.now }
-    ensures source { (get (peers_of names.old.entries) source.now ≡ Some result.0.1)
-        × (get (denied_of names.old.entries) source.now ≡ Some (deny_of result.0.0)) }
-    ensures target { (get (peers_of names.old.entries) target.now ≡ Some result.1.1)
-        × (get (denied_of names.old.entries) target.now ≡ Some (deny_of result.1.0)) }
-    ensures left { IsEmptied names.old.entries source.now target.now names.new.entries }
+    ensures source { entry_at names.old.entries source.now ≡ Some result.0 }
+    ensures target { entry_at names.old.entries target.now ≡ Some result.1 }
+    ensures left { (p : Rules × PeerValue) × (q : Rules × PeerValue)
+        × IsWithBoth names.old.entries source.now target.now p q names.new.entries }
+    ensures source_left { contains_key (peers_of names.new.entries) source.now ≡ true }
+    ensures target_left { contains_key (peers_of names.new.entries) target.now ≡ true }
 {
     let Some(place) = names.get_mut(source) else {
         unreachable!()
@@ -66,10 +68,7 @@ pub fn put_in(
 )
     requires source { contains_key (peers_of names.old.entries) source.now ≡ true }
     requires target { contains_key (peers_of names.old.entries) target.now ≡ true }
-    ensures peers { peers_of names.new.entries
-        ≡ insert (insert (peers_of names.old.entries) source.now sender.1) target.now receiver.1 }
-    ensures filters { denied_of names.new.entries
-        ≡ insert (insert (denied_of names.old.entries) source.now (deny_of sender.0)) target.now (deny_of receiver.0) }
+    ensures { IsWithBoth names.old.entries source.now target.now sender receiver names.new.entries }
 {
     let Some(place) = names.get_mut(source) else {
         unreachable!()

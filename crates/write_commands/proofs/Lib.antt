@@ -3,9 +3,6 @@ pub mod ReplicateLemmas
 pub mod trust
 pub use LoadLemmas.{loads, loads_drawn, loads_named, loads_taken, refused_either, there_told}
 pub use ReplicateLemmas.{replicated, replicates, too_late, unchosen}
-pub use trust.Backup.{backs_tied}
-pub use trust.Edit.{edits_tied}
-pub use trust.Load.{loads_tied}
-pub use trust.Replicate.{reports_tied}
-pub use trust.Restore.{restores_known, restores_tied}
-pub use trust.Sync.{syncs_tied}
+pub use trust.Replicate.{reports_covered}
+pub use trust.Restore.{restores_known}
+pub use trust.Sync.{syncs_met}

@@ -1,7 +1,4 @@
--- Each command keeps all databases tied, and its output has its guarantee: a file for each.
-pub mod Load
-pub mod Edit
-pub mod Backup
+-- The output of a command has its guarantee: a file for each command.
 pub mod Restore
 pub mod Replicate
 pub mod Sync

@@ -12,7 +12,7 @@ use Rattle.repl_peer.specs.declared.fault.Report.{Report}
 use Rattle.repl_peer.specs.declared.fault.TargetFault.{TargetFault}
 use Rattle.repl_target.specs.declared.replication.Plan.{Plan}
 use Rattle.script_engine.specs.Serving.{Told, Answering}
-use Rattle.script_databases.specs.AllTied.{CoversUpTo}
+use Rattle.script_databases.specs.Consistent.{CoversUpTo}
 use Rattle.script_databases.specs.Replications.{ReplicatesAlone, ReplicatesByPool, ReplicatesWatched}
 use Rattle.script_databases.specs.Databases.{Program, State, drawn_one, next_made}
 use Rattle.script_databases.specs.Refusals.{GivesOrMemory, name_of, run_stop_of, stop_of}
@@ -89,7 +89,7 @@ replicate_in d = do
 
 -- ---- its output
 
--- The part of the output of `replicate` that has a report's session id, start and recorded sequence.
+-- In the output of `replicate`, the text with a report's session id, start sequence and recorded sequence.
 abbrev pub session_part : Report → List ℕ
 session_part r =
     codes "session " ++ id_digits r.session.0 ++ codes " from " ++ decimal r.start ++ codes " to " ++ decimal r.recorded
@@ -159,23 +159,23 @@ plan_of s options chosen = plan_with s.program options (session_of s options) ch
 
 -- ---- its result
 
--- How a replication by one thread ended, or the error with which it failed. A replication by one thread that returned
--- `Unfinished` has not failed.
+-- How a replication by one thread ended, or the error with which it failed. A replication by one thread has not failed
+-- if it returned `Unfinished`.
 abbrev pub ending_of : Result Report TargetFault → Result Ending Refusal
 ending_of (Ok report) = Ok (Done report)
 ending_of (Err fault) = do
   low_water ← stop_of fault
   Ok (Stopped low_water)
 
--- How a replication by the pool ended, or the error with which it failed. A replication by the pool that returned
--- `Unfinished` has not failed.
+-- How a replication by the pool ended, or the error with which it failed. A replication by the pool has not failed if
+-- the replication returned `Unfinished`.
 abbrev pub ending_of_run : Result Report PoolFault → Result Ending Refusal
 ending_of_run (Ok report) = Ok (Done report)
 ending_of_run (Err fault) = do
   low_water ← run_stop_of fault
   Ok (Stopped low_water)
 
--- How a replication by the pool with a progress board ended, or the error with which it failed.
+-- How a replication by the pool ended, or the error with which it failed. The replication used a progress board.
 abbrev pub ending_of_watched : Result Watched PoolFault → Result Ending Refusal
 ending_of_watched (Ok watched) = Ok (Shown watched)
 ending_of_watched (Err fault) = ending_of_run (Err fault)
@@ -200,7 +200,8 @@ replicated_text session ended = do
   ending ← ended
   Ok (ending_line session ending)
 
--- The result of `replicate` for a selection of documents of two existing databases.
+-- The result of a `replicate` line between two existing databases. The fourth argument is the line's selection of
+-- documents, or the error with which building the selection failed.
 abbrev pub ReplicatesChosen : State → ReplicateAsk → PeerValue × PeerValue → Result Choice Refusal → Told → State
     → Type 0
 ReplicatesChosen old ask both (Ok chosen) told new =
@@ -233,8 +234,8 @@ ReportsReplication old ask told new = ReplicatesFound old ask (both_of old ask) 
 
 -- ---- the guarantee of `replicate`, as specified in docs/PROFILE.md, "Tied databases"
 
--- The guarantee for a session that reached its goal and recorded sequence n. Sequence n is the source's update
--- sequence, and the target covers each leaf of the source's selected feed.
+-- The guarantee for a session that reached its goal and recorded a sequence. The recorded sequence is the source's
+-- update sequence, and the target covers each leaf of the source's selected feed.
 abbrev pub CoversIfDone : State → List ℕ → List ℕ → Choice → Ending → Type 0
 CoversIfDone s source target chosen (Done report) = CoversUpTo s source target chosen report.recorded
 CoversIfDone s source target chosen (Shown watched) = CoversUpTo s source target chosen watched.report.recorded
@@ -245,8 +246,8 @@ abbrev pub StopsIfAsked : Options → Ending → Type 0
 StopsIfAsked options (Stopped low_water) = options.alone ≡ true → (most : ℕ) × (options.stop_after ≡ Some most)
 StopsIfAsked options ending = Unit {0}
 
--- The errors with which a `replicate` line may fail: `NoDatabase`, `BadMoment`, the error of an invalid selection, and
--- those that `Fails` lists. `Fails` also lists `Memory`.
+-- A `replicate` line may fail with `NoDatabase`, `BadMoment`, the error of an invalid selection, or an error that
+-- `Fails` lists. `Fails` also lists `Memory`.
 abbrev pub MayFail : ReplicateAsk → Refusal → Type 0
 MayFail ask refusal =
     (refusal ≡ why.NoDatabase) ⊎ (refusal ≡ why.BadMoment) ⊎ (choice_given ask.doc_ids ≡ Err refusal)

@@ -3,7 +3,7 @@ use Rattle.std.specs.Prelude.{◌≡◌, ◌⊎◌, ℕ, false, List, [], ◌∷
 use Rattle.serde_json.specs.Data.{Data}
 use Rattle.serde_json.specs.Find.{as_bool}
 use Rattle.script_engine.specs.Serving.{Told, Answering, MayTell}
-use Rattle.script_databases.specs.AllTied.{AllTied}
+use Rattle.script_databases.specs.Consistent.{IsConsistent}
 use Rattle.script_databases.specs.Databases.{State}
 use Rattle.script_databases.specs.Refusals.{name_of}
 use Rattle.script_databases.specs.declared.refusal.Refusal.{Refusal}
@@ -79,10 +79,12 @@ both_told text (Ok more) = Ok (text ++ more)
 both_told text (Err name) = Err name
 
 -- The result of `sync`, given the result of the forward direction. The reverse direction follows, unless the forward
--- direction failed.
+-- direction failed. After the forward direction and before the reverse direction, all databases of the script are
+-- consistent.
 abbrev pub SyncsBack : State → SyncAsk → Told → Told → State → Type 0
 SyncsBack mid ask (Ok text) told new =
-    (second : Told) × MayTell ReportsReplication mid ask.back second new × (told ≡ both_told text second)
+    IsConsistent mid × (second : Told) × MayTell ReportsReplication mid ask.back second new
+    × (told ≡ both_told text second)
 SyncsBack mid ask (Err name) told new = (told ≡ Err name) × (new ≡ mid)
 
 -- The results that `sync` may have: the results of two `replicate` lines, one for each direction, in order.
@@ -92,12 +94,12 @@ Syncs old ask told new =
 
 -- ---- the guarantee of `sync`, as specified in docs/PROFILE.md, "Tied databases"
 
--- The guarantee for a `sync` line. Between the two directions of `sync`, all databases are consistent, and each
--- direction has the guarantee of a `replicate` line (`IsCovered`). A `sync` line fails only with an error with which
--- one of its directions may fail.
+-- Each direction of a successful `sync` line has the guarantee of a `replicate` line (`IsCovered`). After the forward
+-- direction and before the reverse direction of a `sync` line, all databases are consistent. If a `sync` line fails,
+-- `MayFail` lists its error for the forward or the reverse direction.
 abbrev pub IsMet : State → SyncAsk → Told → Type 0
 IsMet new ask (Ok text) =
-    (mid : State) × (first : List ℕ) × (second : List ℕ) × (text ≡ first ++ second) × AllTied mid
+    (mid : State) × (first : List ℕ) × (second : List ℕ) × (text ≡ first ++ second) × IsConsistent mid
     × IsCovered mid ask.there (Ok first) × IsCovered new ask.back (Ok second)
 IsMet new ask (Err name) =
     (refusal : Refusal) × (name ≡ name_of refusal) × (MayFail ask.there refusal ⊎ MayFail ask.back refusal)

@@ -223,6 +223,7 @@ fn make_empty(
 ) -> Result<(), Refusal>
     requires empty { answer.old.items ≡ [] }
     requires absent { peer_at databases.old db.now ≡ None }
+    requires fresh { IsTaken databases.old uuid → ⊥ }
     ensures { MayTell LoadsNew databases.old (record { db = db.now; uuid = uuid; doc = None })
         (told_by result answer.new.items) databases.new }
 {
@@ -243,6 +244,7 @@ fn make_with(
 ) -> Result<(), Refusal>
     requires empty { answer.old.items ≡ [] }
     requires absent { peer_at databases.old db.now ≡ None }
+    requires fresh { IsTaken databases.old uuid → ⊥ }
     ensures { MayTell LoadsNew databases.old (record { db = db.now; uuid = uuid; doc = Some document.now })
         (told_by result answer.new.items) databases.new }
 {

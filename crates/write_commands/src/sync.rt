@@ -29,7 +29,7 @@ pub struct Shared {
     pub workers: Option<u64>,
     /// The maximum number of rows of a window.
     pub batch: Option<u64>,
-    /// The timestamp of both sessions, in seconds of Unix time.
+    /// The timestamp of the forward and the reverse session, in seconds of Unix time.
     pub at: Option<u64>,
     /// Whether each direction uses one thread.
     pub alone: bool,
@@ -80,8 +80,8 @@ impl<'v, 'a> Command<&'v Line<'a>> for BothWays<'v, 'a> {
         })
     }
 
-    /// Runs `sync`. If the replication from `a` to `b` fails, the replication from `b` to `a` does not start. The call
-    /// may block, unless the line requests replications with one thread.
+    /// Runs `sync`. If the replication from `a` to `b` fails, the replication from `b` to `a` does not start. `serve`
+    /// may block, unless the member `alone` of the `sync` line is true.
     fn serve<H: Threads + Wait + Sync>(
         &self,
         rt: &H,
@@ -90,6 +90,7 @@ impl<'v, 'a> Command<&'v Line<'a>> for BothWays<'v, 'a> {
         answer: &mut Vec<u8>,
     ) -> Result<(), Refusal> {
         serve_replication(rt, alloc, databases, &self.there, answer)?;
+        databases.law();
         let mut behind = Vec::new(alloc);
         serve_replication(rt, alloc, databases, &self.back, &mut behind)?;
         answer.extend_from_slice(behind.as_slice())?;
@@ -113,8 +114,8 @@ fn shared_of(value: &LineValue<'_>) -> Option<Shared>
     })
 }
 
-/// Returns the parameters of one direction, with the session id of that direction. Neither direction of a `sync` stops
-/// early or prints counters.
+/// Returns the parameters of the forward or the reverse replication of a `sync` line, with the replication's session
+/// id. Neither replication of a `sync` line stops early or prints progress counts.
 fn options_of(shared: &Shared, session: Option<u128>) -> Options
     ensures { result ≡ way_options shared.now session }
 {

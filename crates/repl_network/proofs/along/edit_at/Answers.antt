@@ -1,7 +1,7 @@
 use Rattle.proof_prelude.proofs.{Ok, Err, refl, sym, subst, inl, inr, arith, length-map}
 use Rattle.repl_peer.specs.{after_edit}
 use Rattle.repl_network.specs.{peers_of, AreTied, IsNet, KeepsAgreement, AllMadeBy}
-use Rattle.repl_network.proofs.{set_filters, changed_at, unchanged_at, there_at, edit_tied, edit_agree, edit_net, edit_made}
+use Rattle.repl_network.proofs.{map_set, changed_at, there_at, edit_writes, wrote_tied, wrote_net, edit_agree, edit_made}
 use Rattle.repl_network.proofs.along.edit_at.Goals as goal
 
 pub returns-then-place-peers-clause-answer : goal.returns-then-place-peers-clause-answer
@@ -10,11 +10,12 @@ returns-then-place-peers-clause-answer g c = (let mapped = length-map c.args.pee
 pub returns-in-Ok : goal.returns-in-Ok
 returns-in-Ok g c =
     let changed = changed_at c.args.peers.now c.args.place c.index-peers-place.result c.if-place-peers.false c.edit.new.self (λ p. after_edit p c.args.id.now c.args.parent c.args.deleted c.args.body.now) c.in-Ok.ensures.ok in
+    let writes = edit_writes c.args.id.now c.args.parent c.args.deleted c.args.body.now in
     record {
       answer = inr (_, there_at c.args.peers.now c.args.place c.index-peers-place.result c.if-place-peers.false, Ok c.in-Ok.rev, c.in-Ok.ensures.answer, refl);
-      filters = set_filters c.args.peers.now c.args.place c.index-peers-place.result c.edit.new.self c.if-place-peers.false c.edit.ensures.filter;
-      tied = edit_tied (peers_of c.args.peers.now) c.args.place c.args.id.now c.args.parent c.args.deleted c.args.body.now _ changed;
-      net = edit_net (peers_of c.args.peers.now) c.args.place c.args.id.now c.args.parent c.args.deleted c.args.body.now _ changed;
+      filters = map_set c.args.peers.now (λ p. p.0) c.args.place c.index-peers-place.result c.edit.new.self c.if-place-peers.false c.edit.ensures.filter;
+      tied = wrote_tied (peers_of c.args.peers.now) c.args.place _ _ writes changed;
+      net = wrote_net (peers_of c.args.peers.now) c.args.place _ _ writes changed;
       ok = changed;
       err = tt;
       made = λ among at one. edit_made among (peers_of c.args.peers.now) c.args.place c.args.id.now c.args.parent c.args.deleted c.args.body.now _ changed at one;
@@ -23,12 +24,12 @@ returns-in-Ok g c =
 
 pub returns-in-Err : goal.returns-in-Err
 returns-in-Err g c =
-    let kept = unchanged_at c.args.peers.now c.args.place c.index-peers-place.result c.edit.new.self c.if-place-peers.false c.in-Err.ensures.err in
+    let kept = map_set c.args.peers.now (λ p. p.1) c.args.place c.index-peers-place.result c.edit.new.self c.if-place-peers.false c.in-Err.ensures.err in
     record {
       answer = inr (_, there_at c.args.peers.now c.args.place c.index-peers-place.result c.if-place-peers.false, Err c.in-Err.fault, c.in-Err.ensures.answer, refl);
-      filters = set_filters c.args.peers.now c.args.place c.index-peers-place.result c.edit.new.self c.if-place-peers.false c.edit.ensures.filter;
+      filters = map_set c.args.peers.now (λ p. p.0) c.args.place c.index-peers-place.result c.edit.new.self c.if-place-peers.false c.edit.ensures.filter;
       tied = λ net. subst AreTied (sym kept) net;
-      net = λ net. subst IsNet (sym kept) net;
+      net = λ backups net. subst (IsNet backups) (sym kept) net;
       ok = tt;
       err = kept;
       made = λ among at _ made. subst (λ ps. AllMadeBy among ps at) (sym kept) made;

@@ -18,7 +18,7 @@ loop-hop-preserved g c =
       ap (λ n. n + 1) i.0,
       i.1,
       λ h. c.in_ok-take_hop.ensures.tied (i.2 h),
-      λ h. c.in_ok-take_hop.ensures.net (i.3 h),
+      λ backups h. c.in_ok-take_hop.ensures.net backups (i.3 backups h),
       λ among id h. c.in_ok-take_hop.ensures.made among id (i.4 among id h),
       hops_next (peers_of c.args.peers.now) (peers_of c.loop-hop.peers) (peers_of c.take_hop.new.peers) c.args.hops.now c.loop-hop.hop-index c.hop-item.result c.loop-hop-test.true c.hop-item.is c.in_ok-take_hop.ensures.ended i.5,
       c.in_ok-take_hop.ensures.filters ∙ i.6,

@@ -1,5 +1,5 @@
-use Rattle.proof_prelude.proofs.{◌≡◌, List, drop}
-use Rattle.repl_peer.specs.{PeerValue}
+use Rattle.proof_prelude.proofs.{◌≡◌, ℕ, List, drop}
+use Rattle.repl_peer.specs.{BackupValue, PeerValue}
 use Rattle.repl_network.specs.{peers_of, filters_of, AreTied, IsNet, AllHopped, AllLawful, StaysMade}
 use Rattle.repl_network.proofs.{IsOnTheWay}
 use Rattle.repl_network.proofs.along.replicate_along.Given as goal
@@ -10,7 +10,7 @@ invariant-loop-hop g l =
     (l.at ≡ l.hop-index)
     × AllLawful (peers_of l.initial.peers)
     × (AreTied (peers_of l.initial.peers) → AreTied (peers_of l.peers))
-    × (IsNet (peers_of l.initial.peers) → IsNet (peers_of l.peers))
+    × ((backups : List (ℕ × BackupValue)) → IsNet backups (peers_of l.initial.peers) → IsNet backups (peers_of l.peers))
     × StaysMade (peers_of l.initial.peers) (peers_of l.peers)
     × ((end : List PeerValue) → AllHopped (peers_of l.peers) (drop l.hop-index l.hops) end → AllHopped (peers_of l.initial.peers) l.hops end)
     × (filters_of l.peers ≡ filters_of l.initial.peers)

@@ -8,8 +8,8 @@ returns-in-Ok g c =
     record {
       taken = taken c.in-Ok.ensures.hop;
       filters = first_of (search rules, grind (arith, common_steps));
-      tied = λ net. hop_tied (peers_of c.args.peers.now) c.args.hop.now (peers_of c.carry.new.peers) c.carry.ensures.hopped net;
-      net = λ net. hop_net (peers_of c.args.peers.now) c.args.hop.now (peers_of c.carry.new.peers) c.carry.ensures.hopped net;
+      tied = hop_tied (peers_of c.args.peers.now) c.args.hop.now (peers_of c.carry.new.peers) c.carry.ensures.hopped;
+      net = hop_net (peers_of c.args.peers.now) c.args.hop.now (peers_of c.carry.new.peers) c.carry.ensures.hopped;
       made = λ among id. hop_made among (peers_of c.args.peers.now) c.args.hop.now (peers_of c.carry.new.peers) c.carry.ensures.hopped id;
       ended = first_of (search rules, grind (arith, common_steps));
     }
@@ -19,8 +19,8 @@ returns-in-Err g c =
     record {
       taken = refused c.in-Err.ensures.hop;
       filters = first_of (search rules, grind (arith, common_steps));
-      tied = λ net. hop_tied (peers_of c.args.peers.now) c.args.hop.now (peers_of c.carry.new.peers) c.carry.ensures.hopped net;
-      net = λ net. hop_net (peers_of c.args.peers.now) c.args.hop.now (peers_of c.carry.new.peers) c.carry.ensures.hopped net;
+      tied = hop_tied (peers_of c.args.peers.now) c.args.hop.now (peers_of c.carry.new.peers) c.carry.ensures.hopped;
+      net = hop_net (peers_of c.args.peers.now) c.args.hop.now (peers_of c.carry.new.peers) c.carry.ensures.hopped;
       made = λ among id. hop_made among (peers_of c.args.peers.now) c.args.hop.now (peers_of c.carry.new.peers) c.carry.ensures.hopped id;
       ended = first_of (search rules, grind (arith, common_steps));
     }

@@ -46,7 +46,7 @@ returns-in-Ok-outcome-clause-meet g c =
     let second = subst (λ o. Runs g.F.WriteFilter.refuses (g.G.Gate.may_stop c.args.gate.now) c.args.back.now c.run-a.result.target c.run-a.result.source c.run-b.result.source c.run-b.result.target c.run-b.result.fetched.items o) c.in-Ok-outcome.is c.run-b.ensures.runs in
     both_meet (g.F.WriteFilter.refuses c.run-a.result.source.0) (g.F.WriteFilter.refuses c.args.b.0) c.args.a.1 c.args.b.1 c.run-a.result.source.1 c.run-a.result.target.1 c.run-b.result.target.1 c.run-b.result.source.1 c.args.there.now c.args.back.now
     c.law.ensures.database c.law-3.ensures.database c.law-5.ensures.database
-    (run_leaves _ _ _ _ _ _ _ _ _ c.run-a.ensures.runs) (run_leaves _ _ _ _ _ _ _ _ _ c.run-b.ensures.runs) first.whole second.whole
+    (run_leaves _ _ _ _ _ _ _ _ _ _ c.run-a.ensures.runs) (run_leaves _ _ _ _ _ _ _ _ _ _ c.run-b.ensures.runs) first.whole second.whole
 
 pub returns-in-Err-outcome-clause-runs : goal.returns-in-Err-outcome-clause-runs
 returns-in-Err-outcome-clause-runs g c =

@@ -1,36 +1,18 @@
-use Rattle.proof_prelude.proofs.{refl, sym, ap, ◌∙◌, rules, contains_key, true≢false}
-use Rattle.std.specs.FinMap.{insert}
-use Rattle.script_databases.specs.{deny_of, peers_of}
-use Rattle.script_databases.proofs.{still_there, found_absent, written}
+use Rattle.proof_prelude.proofs.{is_some, sym, ap, ◌∙◌, rules, true≢false}
+use Rattle.script_databases.proofs.{has_at, one_updated, still_there, two_updated}
 use Rattle.script_databases.proofs.pair.put_in.Goals as goal
 
 pub unreachable-requires : goal.unreachable-requires
-unreachable-requires c = true≢false (sym c.requires.source ∙ found_absent (λ p. p.1) c.args.names.now.entries c.args.source.now c.args.source.now refl c.in_default.ensures.value)
+unreachable-requires c = true≢false (sym c.requires.source ∙ has_at c.args.names.now.entries c.args.source.now ∙ ap is_some (sym c.in_default.ensures.value))
 
 pub unreachable-requires-in_default-get_mut : goal.unreachable-requires-in_default-get_mut
 unreachable-requires-in_default-get_mut c =
     let es = c.args.names.now in
-    let source = c.args.source.now in
-    let target = c.args.target.now in
-    let sender = c.args.sender in
-    let h1 = c.get_mut.follows.lender sender in
-    let w1 = written (λ p. p.1) es h1 source source sender refl ((c.get_mut.follows.holds sender).3 (search rules)) in
-    true≢false (sym (still_there (peers_of es.entries) source target sender.1 c.requires.target) ∙ sym (ap (λ m. contains_key m target) w1) ∙ found_absent (λ p. p.1) h1.entries target target refl c.in_default-get_mut.ensures.value)
+    let mid = c.get_mut.follows.lender c.args.sender in
+    let one = one_updated es mid c.args.source.now c.args.sender ((c.get_mut.follows.holds c.args.sender).3 (search rules)) in
+    true≢false (sym (still_there es.entries mid.entries c.args.source.now c.args.target.now c.args.sender one (sym (has_at es.entries c.args.target.now) ∙ c.requires.target)) ∙ ap is_some (sym c.in_default-get_mut.ensures.value))
 
 pub returns : goal.returns
 returns c =
-    let es = c.args.names.now in
-    let source = c.args.source.now in
-    let target = c.args.target.now in
-    let sender = c.args.sender in
-    let receiver = c.args.receiver in
-    let h1 = c.get_mut.follows.lender sender in
-    let h2 = c.get_mut-2.follows.lender receiver in
-    record {
-      peers =
-          written (λ p. p.1) h1 h2 target target receiver refl ((c.get_mut-2.follows.holds receiver).3 (search rules))
-          ∙ ap (λ m. insert m target receiver.1) (written (λ p. p.1) es h1 source source sender refl ((c.get_mut.follows.holds sender).3 (search rules)));
-      filters =
-          written (λ p. deny_of p.0) h1 h2 target target receiver refl ((c.get_mut-2.follows.holds receiver).3 (search rules))
-          ∙ ap (λ m. insert m target (deny_of receiver.0)) (written (λ p. deny_of p.0) es h1 source source sender refl ((c.get_mut.follows.holds sender).3 (search rules)));
-    }
+    two_updated c.args.names.now (c.get_mut.follows.lender c.args.sender) (c.get_mut-2.follows.lender c.args.receiver) c.args.source.now c.args.target.now c.args.sender c.args.receiver
+    ((c.get_mut.follows.holds c.args.sender).3 (search rules)) ((c.get_mut-2.follows.holds c.args.receiver).3 (search rules))

@@ -1,9 +1,9 @@
-use Rattle.proof_prelude.proofs.{refl, sym, ap, ◌∙◌}
+use Rattle.proof_prelude.proofs.{refl, sym, ap, subst, ◌∙◌}
 use Rattle.couch_base.specs.{put_answer}
 use Rattle.repl_peer.specs.{PeerValue, new_peer, after_load}
 use Rattle.script_engine.specs.{in_full, gave_up, served_only}
-use Rattle.script_databases.specs.{with_peer, told_as, base_refusal}
-use Rattle.script_databases.proofs.{put_refused}
+use Rattle.script_databases.specs.{IsTaken, with_peer, told_as, base_refusal}
+use Rattle.script_databases.proofs.{load_keeps, put_refused}
 use Rattle.write_commands.specs.{put_line}
 use Rattle.command_api.proofs.{passes, stops, does, does_nothing, both, gave_up_at, printed, unless_memory, handed_on, refused_memory}
 use Rattle.write_commands.proofs.load.make_with.Goals as goal
@@ -38,3 +38,14 @@ returns-in_err-print_put c =
     let state = c.in_ok-add.ensures.ok ∙ ap (with_peer c.args.databases.now c.args.db.now) (c.in_ok-put.ensures.ok ∙ ap (λ (l : PeerValue). after_load l d) c.in_ok-peer.ensures.0) in
     let line = put_line c.args.db.now d c.in_ok-put.put in
     refused_memory c.from_residual-in_err-print_put.result _ c.from_residual-in_err-print_put.ensures.1 (served_only line (does c.args.databases.now line (passes _ (ap (told_as base_refusal) (sym answer)) ∙ both refl state)))
+
+-- the new peer has the UUID, and neither sessions nor logs
+pub add-requires-clause-fresh : goal.add-requires-clause-fresh
+add-requires-clause-fresh c =
+    let is = c.in_ok-put.ensures.ok ∙ ap (λ (l : PeerValue). after_load l c.args.document.now) c.in_ok-peer.ensures.0 in
+    λ taken. c.requires.fresh (subst (IsTaken c.args.databases.now) (ap (λ (l : PeerValue). l.db.uuid) is ∙ load_keeps c.args.document.now (new_peer c.args.uuid)) taken)
+
+pub add-requires-clause-unused : goal.add-requires-clause-unused
+add-requires-clause-unused c =
+    let is = c.in_ok-put.ensures.ok ∙ ap (λ (l : PeerValue). after_load l c.args.document.now) c.in_ok-peer.ensures.0 in
+    (ap (λ (l : PeerValue). l.sessions) is, ap (λ (l : PeerValue). l.outgoing) is)

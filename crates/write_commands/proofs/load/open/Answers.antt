@@ -1,4 +1,5 @@
-use Rattle.proof_prelude.proofs.{Ok, Some, None, ap, refl, sym, ◌∙◌}
+use Rattle.proof_prelude.proofs.{Ok, Some, None, ap, refl, subst, sym, ◌∙◌}
+use Rattle.script_databases.specs.{IsTaken, State}
 use Rattle.script_engine.specs.{in_full, served_only}
 use Rattle.write_commands.specs.{there_line}
 use Rattle.write_commands.proofs.{loads_drawn, loads_named, loads_taken}
@@ -28,3 +29,6 @@ returns c =
     let absent = is_absent c.args.databases.now c.args.db.now (sym c.has.ensures ∙ c.if-has.false) in
     let made = c.in_ok-uuid.ensures.ok in
     loads_drawn (record { db = c.args.db.now; doc = None }) c.in_ok-uuid.uuid absent c.in_ok-uuid.ensures.drawn made.0 made.1 c.make_empty.ensures
+
+pub make_empty-requires-clause-fresh : goal.make_empty-requires-clause-fresh
+make_empty-requires-clause-fresh c = λ taken. c.in_ok-uuid.ensures.ok.1 (subst (λ (s : State). IsTaken s c.in_ok-uuid.uuid) c.in_ok-uuid.ensures.drawn taken)

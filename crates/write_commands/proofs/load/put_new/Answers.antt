@@ -1,4 +1,5 @@
-use Rattle.proof_prelude.proofs.{Some}
+use Rattle.proof_prelude.proofs.{Some, subst}
+use Rattle.script_databases.specs.{IsTaken, State}
 use Rattle.write_commands.proofs.{loads_drawn, loads_taken}
 use Rattle.command_api.proofs.{handed_on}
 use Rattle.write_commands.proofs.load.put_new.Goals as goal
@@ -14,3 +15,6 @@ pub returns : goal.returns
 returns c =
     let made = c.in_ok-uuid.ensures.ok in
     loads_drawn (record { db = c.args.db.now; doc = Some c.args.document.now }) c.in_ok-uuid.uuid c.requires.absent c.in_ok-uuid.ensures.drawn made.0 made.1 c.make_with.ensures
+
+pub make_with-requires-clause-fresh : goal.make_with-requires-clause-fresh
+make_with-requires-clause-fresh c = λ taken. c.in_ok-uuid.ensures.ok.1 (subst (λ (s : State). IsTaken s c.in_ok-uuid.uuid) c.in_ok-uuid.ensures.drawn taken)

@@ -9,7 +9,7 @@ invariant_of-self-2 g c =
     let items = c.self.inside.peers.items in
     let was : c.deref.result.now ≡ items = search in
     let fresh = subst (λ ps. IsHeld (peers_of ps) c.args.uuid → ⊥) was c.in_default.ensures.none in
-    subst (λ ps. IsNet (peers_of ps)) (sym c.in_ok-put_peer.ensures.ok) (added_net items c.args.filter c.new.result c.args.uuid c.new.ensures.value c.self.invariant fresh)
+    subst (λ ps. IsNet [] (peers_of ps)) (sym c.in_ok-put_peer.ensures.ok) (added_net [] items c.args.filter c.new.result c.args.uuid c.new.ensures.value c.self.invariant fresh)
 
 pub returns-clause-ok : goal.returns-clause-ok
 returns-clause-ok g c =

@@ -1,32 +1,24 @@
-use Rattle.proof_prelude.proofs.{◌≡◌, length, OnOk, sym, ap, ◌∙◌, subst, on_ok_weaker}
+use Rattle.proof_prelude.proofs.{◌≡◌, [], length, OnOk, sym, subst, on_ok_weaker}
 use Rattle.repl_network.specs.{peers_of, filters_of, IsNet, HubSpread, StaysMade, TakesHub}
-use Rattle.repl_network.proofs.{whole_vector}
+use Rattle.repl_network.proofs.{in_net}
 use Rattle.repl_network.proofs.net.Net.sync_by_hub.Goals as goal
 
 pub invariant_of-self : goal.invariant_of-self
 invariant_of-self g c =
-    let items = c.self.inside.peers.items in
-    let new = c.sync_by_hub.new.peers in
-    let len : length new ≡ c.self.inside.peers.len = search in
-    let was : c.deref_mut.result.now ≡ items = search in
-    subst (λ ps. IsNet (peers_of ps)) (sym (whole_vector items new c.self.inside.peers.len len)) (c.sync_by_hub.ensures.net (subst (λ ps. IsNet (peers_of ps)) (sym was) c.self.invariant))
+    let size : length c.sync_by_hub.new.peers ≡ c.self.inside.peers.len = search in
+    let was : c.deref_mut.result.now ≡ c.self.inside.peers.items = search in
+    in_net was c.self.view_is size (λ _ qs. IsNet [] (peers_of qs)) (c.sync_by_hub.ensures.net [] (subst (λ ps. IsNet [] (peers_of ps)) (sym was) c.self.invariant))
 
 pub returns : goal.returns
 returns g c =
-    let items = c.self.inside.peers.items in
-    let new = c.sync_by_hub.new.peers in
-    let len : length new ≡ c.self.inside.peers.len = search in
-    let was : c.deref_mut.result.now ≡ items = search in
+    let size : length c.sync_by_hub.new.peers ≡ c.self.inside.peers.len = search in
+    let was : c.deref_mut.result.now ≡ c.self.inside.peers.items = search in
+    let r = c.sync_by_hub.result in
+    let e = c.sync_by_hub.ensures in
+    let net = subst (λ ps. IsNet [] (peers_of ps)) (sym was) c.self.invariant in
     record {
-      taken =
-          subst (λ ps. TakesHub g.F.WriteFilter.refuses c.args.self.now c.args.there.now c.args.back.now c.sync_by_hub.result ps) (sym (whole_vector items new c.self.inside.peers.len len))
-          (subst (λ ps. TakesHub g.F.WriteFilter.refuses ps c.args.there.now c.args.back.now c.sync_by_hub.result new) c.self.view_is (subst (λ ps. TakesHub g.F.WriteFilter.refuses ps c.args.there.now c.args.back.now c.sync_by_hub.result new) was c.sync_by_hub.ensures.taken));
-      filters = subst (λ ps. filters_of ps ≡ filters_of c.args.self.now) (sym (whole_vector items new c.self.inside.peers.len len)) (c.sync_by_hub.ensures.filters ∙ (ap filters_of was ∙ ap filters_of c.self.view_is));
-      made =
-          subst (λ ps. StaysMade (peers_of c.args.self.now) (peers_of ps)) (sym (whole_vector items new c.self.inside.peers.len len))
-          (subst (λ ps. StaysMade (peers_of ps) (peers_of new)) c.self.view_is (subst (λ ps. StaysMade (peers_of ps) (peers_of new)) was c.sync_by_hub.ensures.made));
-      same =
-          subst (λ ps. OnOk c.sync_by_hub.result (HubSpread (peers_of c.args.self.now) c.args.there.now c.args.back.now (peers_of ps))) (sym (whole_vector items new c.self.inside.peers.len len))
-          (subst (λ ps. OnOk c.sync_by_hub.result (HubSpread (peers_of ps) c.args.there.now c.args.back.now (peers_of new))) c.self.view_is
-          (on_ok_weaker c.sync_by_hub.result (λ same. subst (λ ps. HubSpread (peers_of ps) c.args.there.now c.args.back.now (peers_of new)) was (same (subst (λ ps. IsNet (peers_of ps)) (sym was) c.self.invariant).tied)) c.sync_by_hub.ensures.same));
+      taken = in_net was c.self.view_is size (λ ps qs. TakesHub g.F.WriteFilter.refuses ps c.args.there.now c.args.back.now r qs) e.taken;
+      filters = in_net was c.self.view_is size (λ ps qs. filters_of qs ≡ filters_of ps) e.filters;
+      made = in_net was c.self.view_is size (λ ps qs. StaysMade (peers_of ps) (peers_of qs)) e.made;
+      same = in_net was c.self.view_is size (λ ps qs. OnOk r (HubSpread (peers_of ps) c.args.there.now c.args.back.now (peers_of qs))) (on_ok_weaker r (λ all. all net.consistent) e.same);
     }
