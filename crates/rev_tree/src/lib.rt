@@ -12,6 +12,7 @@ mod nodes;
 mod origin;
 mod place_index;
 mod revs;
+mod shared_nodes;
 mod tournament;
 mod tree;
 mod walks;

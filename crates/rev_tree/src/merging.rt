@@ -1,5 +1,5 @@
 //! Compares an ancestry with the nodes of a tree, and inserts the ancestry.
-ghost use Rattle.std.specs.Prelude.{◌≡◌, ℕ, ◌+◌, ◌<◌, ◌≤◌, [], Some, None, IfSome, IfOk, IfErr, OnOk, length, slice_get};
+ghost use Rattle.std.specs.Prelude.{◌≡◌, ℕ, ◌+◌, ◌<◌, ◌≤◌, [], Some, None, IfSome, IfOk, IfErr, OnErr, OnOk, length, slice_get};
 ghost use Rattle.std.specs.FinMap.{get};
 ghost use Rattle.std.specs.List.{list_all};
 ghost use Rattle.rev_core.specs.Rev.{RevId};
@@ -15,6 +15,7 @@ use crate::node::Node;
 use crate::nodes::Nodes;
 use crate::origin::Origin;
 use rev_core::{Rev, Sig};
+use std::alloc::AllocError;
 
 impl Nodes {
     /// Whether the tree has all edges (from child to parent) of an ancestry. Returns an error if a child's parent in
@@ -81,6 +82,28 @@ impl Nodes {
         let nodes = self.all();
         let place = place?;
         nodes[place].parent()
+    }
+
+    /// Inserts an ancestry with its content, and returns the index of the winner's node. The argument `best` is the
+    /// index of the winner's node before the call.
+    pub(crate) fn insert(
+        &mut self,
+        best: usize,
+        revs: &[Rev],
+        content: Content,
+        origin: Origin,
+    ) -> Result<usize, AllocError>
+        requires led { IsLed self.old.items best }
+        requires ancestry { IsAncestry revs.now }
+        requires none { first_contradiction (tree_of self.old.items).parents (edges_of revs.now) ≡ None }
+        ensures tree { OnOk result (tree_of self.new.items ≡ merged (tree_of self.old.items) revs.now content origin) }
+        ensures best { IfOk result (λ b. slice_get (revs_in self.new.items) b ≡ first_of (leaves (tree_of self.new.items))) }
+        ensures err { OnErr result (self.new.items ≡ self.old.items) }
+    {
+        let mut blocks = self.make_room(revs)?;
+        let best = self.put(best, revs, content, origin, &mut blocks);
+        self.give_back();
+        Ok(best)
     }
 
     /// Inserts the revisions of an ancestry, its edges and the content of its head, and returns the index of the

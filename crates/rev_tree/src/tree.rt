@@ -5,9 +5,9 @@ ghost use Rattle.std.specs.Option.{option_copied};
 use crate::content::Content;
 use crate::fault::{Contradiction, Merged, TreeFault};
 use crate::leaf::Leaf;
-use crate::nodes::Nodes;
 use crate::origin::Origin;
 use crate::revs::Revs;
+use crate::shared_nodes::SharedNodes;
 use crate::winner::is_deleted;
 use rev_core::{Ancestry, Rev, SmallRev};
 use std::alloc::{AllocError, Global};
@@ -25,7 +25,7 @@ pub struct RevInfo<'a> {
 /// Each revision is stored as a node, which has the index of the parent's node. The tree stores the index of the
 /// winner's node.
 pub struct Tree {
-    nodes: Nodes,
+    nodes: SharedNodes,
     best: usize,
 }
 
@@ -61,7 +61,7 @@ impl Tree {
         ensures { result ≡ no_revisions }
     {
         Tree {
-            nodes: Nodes::new(alloc),
+            nodes: SharedNodes::new(alloc),
             best: 0,
         }
     }
@@ -288,7 +288,7 @@ impl Tree {
         ensures copied { IfOk result (λ t. t ≡ self.now) }
         ensures tree { IsTree self.now }
     {
-        let nodes = self.nodes.copy(alloc)?;
+        let nodes = self.nodes.share()?;
         Ok(Tree {
             nodes,
             best: self.best,
@@ -374,12 +374,9 @@ impl Tree {
         ensures err { OnErr result (self.new ≡ self.old) }
         ensures tree { IsTree self.new }
     {
-        let revs = ancestry.revs();
-        let mut blocks = self.nodes.make_room(revs)?;
         let best = self
             .nodes
-            .put(self.best, revs, content, origin, &mut blocks);
-        self.nodes.give_back();
+            .insert(self.best, ancestry.revs(), content, origin)?;
         self.best = best;
         Ok(())
     }
