@@ -3,7 +3,7 @@ use Rattle.proof_prelude.proofs.{◌≡◌, ℕ, zero, suc, ◌+◌, ◌<◌, �
 use Rattle.rev_core.specs.{RevId, rev_cmp}
 use Rattle.rev_tree.specs.{in_order, placed, first_of, first_of-placed, better, only_of, same_in_order, in_order-push, in_order-cons, in_order-nil, length-placed, TreeValue, is_leaf, is_deleted, leaf_cmp, leaves, ContentValue, leaf_cmp_total, leaf_cmp_exact, leaf_tie, any_agree, any_filter, revs_in, tree_of, deletes, goes_before, Distinct, IsLinked, NodeValue}
 use Rattle.rev_tree.proofs.Places.{is_some-node_of, node_at, read_at}
-use Rattle.rev_tree.proofs.Lookups.{leaf_is, content_is}
+use Rattle.rev_tree.proofs.Lookups.{Shows, leaf_is, content_is}
 use Rattle.rev_tree.proofs.Views.{has-tree_of}
 
 pub revs_more : (nodes : List NodeValue) (i : ℕ) (n : NodeValue) → i < length nodes → n ≡ get_or nodes i n → revs_in (take (i + 1) nodes) ≡ revs_in (take i nodes) ++ n.rev ∷ []
@@ -12,13 +12,13 @@ revs_more nodes i n low is =
     ∙ map-append (λ (x : NodeValue). x.rev) (take i nodes) (n ∷ [])
 
 -- the flag of a node says whether its revision is a leaf
-pub leaf_item : (nodes items : List NodeValue) (t : TreeValue) → IsLinked nodes → tree_of nodes ≡ t → items ≡ nodes → (i : ℕ) (n : NodeValue) → i < length items → n ≡ get_or items i n → is_leaf t n.rev ≡ not n.has_child
+pub leaf_item : (nodes items : List NodeValue) (t : TreeValue) → IsLinked nodes → Shows nodes t → items ≡ nodes → (i : ℕ) (n : NodeValue) → i < length items → n ≡ get_or items i n → is_leaf t n.rev ≡ not n.has_child
 leaf_item nodes items t linked view same i n low is =
     leaf_is nodes t n.rev (Some n) linked view
     (node_at nodes linked.once i n (read_at nodes i n (subst (λ l. i < length l) same low) (subst (λ l. n ≡ get_or l i n) same is)))
 
 -- the content of a node says whether its revision deletes
-pub deleted_item : (nodes items : List NodeValue) (t : TreeValue) → IsLinked nodes → tree_of nodes ≡ t → items ≡ nodes → (i : ℕ) (n : NodeValue) → i < length items → n ≡ get_or items i n → is_deleted t n.rev ≡ deletes n
+pub deleted_item : (nodes items : List NodeValue) (t : TreeValue) → IsLinked nodes → Shows nodes t → items ≡ nodes → (i : ℕ) (n : NodeValue) → i < length items → n ≡ get_or items i n → is_deleted t n.rev ≡ deletes n
 deleted_item nodes items t linked view same i n low is =
     ap (λ o. option_map_or (λ (b : ContentValue). b.deleted) o false)
     (content_is nodes t n.rev (Some n) linked view
@@ -41,12 +41,12 @@ leaves_more t nodes i n low is =
     ]
 
 -- the nodes include all leaves
-pub leaves_of_nodes : (nodes : List NodeValue) (t : TreeValue) → IsLinked nodes → tree_of nodes ≡ t → in_order (leaf_cmp t) (filter (is_leaf t) (revs_in nodes)) ≡ leaves t
+pub leaves_of_nodes : (nodes : List NodeValue) (t : TreeValue) → IsLinked nodes → Shows nodes t → in_order (leaf_cmp t) (filter (is_leaf t) (revs_in nodes)) ≡ leaves t
 leaves_of_nodes nodes t linked view =
     same_in_order (leaf_cmp_total t) (leaf_cmp_exact t) (filter (is_leaf t) (revs_in nodes)) (filter (is_leaf t) (keys t.origins)) (λ q.
     any_agree (eq_by_cmp (leaf_cmp t) q) (eq_by_cmp rev_cmp q) (leaf_tie t q) (filter (is_leaf t) (revs_in nodes))
     ∙ any_filter (is_leaf t) q (revs_in nodes)
-    ∙ ap (λ b. b && is_leaf t q) (sym (is_some-node_of nodes q) ∙ sym (has-tree_of nodes linked.once q) ∙ contains_key-keys (tree_of nodes).origins q ∙ ap (λ (u : TreeValue). list_any (eq_by_cmp rev_cmp q) (keys u.origins)) view)
+    ∙ ap (λ b. b && is_leaf t q) (sym (is_some-node_of nodes q) ∙ sym (has-tree_of nodes linked.once q) ∙ view.has q ∙ contains_key-keys t.origins q)
     ∙ sym (any_filter (is_leaf t) q (keys t.origins))
     ∙ any_agree (eq_by_cmp rev_cmp q) (eq_by_cmp (leaf_cmp t) q) (λ x. sym (leaf_tie t q x)) (filter (is_leaf t) (keys t.origins)))
 
@@ -82,7 +82,7 @@ best_placed t xs (Some a) n h best =
     of_one true m e = subst (λ (x : NodeValue). is_deleted t x.rev ≡ deletes x) (same_Some n m e) h
     of_one false m e = best.told m e
 
-pub best_of_all : (nodes items : List NodeValue) (t : TreeValue) → IsLinked nodes → tree_of nodes ≡ t → items ≡ nodes → (k : ℕ) (best : Option NodeValue) → length items ≤ k
+pub best_of_all : (nodes items : List NodeValue) (t : TreeValue) → IsLinked nodes → Shows nodes t → items ≡ nodes → (k : ℕ) (best : Option NodeValue) → length items ≤ k
     → IsBest t (in_order (leaf_cmp t) (filter (is_leaf t) (revs_in (take k items)))) best → option_map (λ (n : NodeValue). n.rev) best ≡ first_of (leaves t)
 best_of_all nodes items t linked view same k best all h =
     h.first ∙ ap (λ l. first_of (in_order (leaf_cmp t) (filter (is_leaf t) (revs_in l)))) (take_all k items all ∙ same) ∙ ap first_of (leaves_of_nodes nodes t linked view)
@@ -103,7 +103,7 @@ count_once t (r ∷ revs) once =
       | false ↦ count_once t revs once.1
     ]
 
-pub length-leaves : (nodes : List NodeValue) (t : TreeValue) → IsLinked nodes → tree_of nodes ≡ t → length (leaves t) ≡ length (filter (is_leaf t) (revs_in nodes))
+pub length-leaves : (nodes : List NodeValue) (t : TreeValue) → IsLinked nodes → Shows nodes t → length (leaves t) ≡ length (filter (is_leaf t) (revs_in nodes))
 length-leaves nodes t linked view = ap length (sym (leaves_of_nodes nodes t linked view)) ∙ count_once t (revs_in nodes) linked.once
 
 pub count_more : (t : TreeValue) (nodes : List NodeValue) (i : ℕ) (n : NodeValue) → i < length nodes → n ≡ get_or nodes i n → length (filter (is_leaf t) (revs_in (take (i + 1) nodes))) ≡ length (filter (is_leaf t) (revs_in (take i nodes))) + cond (is_leaf t n.rev) 1 0
@@ -137,7 +137,7 @@ as_many t nodes k =
     omega (arith, e)
 
 -- with a second leaf there is no single leaf
-pub second_leaf : (nodes : List NodeValue) (t : TreeValue) → IsLinked nodes → tree_of nodes ≡ t → (i : ℕ) (n : NodeValue) (found : Option RevId) → i < length nodes → n ≡ get_or nodes i n → filter (is_leaf t) (revs_in (take i nodes)) ≡ option_to_list found → is_some found ≡ true → is_leaf t n.rev ≡ true → None ≡ only_of (leaves t)
+pub second_leaf : (nodes : List NodeValue) (t : TreeValue) → IsLinked nodes → Shows nodes t → (i : ℕ) (n : NodeValue) (found : Option RevId) → i < length nodes → n ≡ get_or nodes i n → filter (is_leaf t) (revs_in (take i nodes)) ≡ option_to_list found → is_some found ≡ true → is_leaf t n.rev ≡ true → None ≡ only_of (leaves t)
 second_leaf nodes t linked view i n found low is before some leaf =
     let more = count_more t nodes i n low is ∙ ap (λ b. length (filter (is_leaf t) (revs_in (take i nodes))) + cond b 1 0) leaf in
     let one = ap length before ∙ one_of found some in
@@ -150,7 +150,7 @@ second_leaf nodes t linked view i n found low is before some leaf =
     one_of (Some r) e = refl
 
 -- the leaves of all nodes, if there is at most one
-pub lone_leaf : (nodes : List NodeValue) (t : TreeValue) → IsLinked nodes → tree_of nodes ≡ t → (found : Option RevId) → filter (is_leaf t) (revs_in nodes) ≡ option_to_list found → found ≡ only_of (leaves t)
+pub lone_leaf : (nodes : List NodeValue) (t : TreeValue) → IsLinked nodes → Shows nodes t → (found : Option RevId) → filter (is_leaf t) (revs_in nodes) ≡ option_to_list found → found ≡ only_of (leaves t)
 lone_leaf nodes t linked view found e = sym (ap only_of (sym (leaves_of_nodes nodes t linked view) ∙ ap (in_order (leaf_cmp t)) e ∙ ordered found) ∙ only found)
   where
     ordered : (o : Option RevId) → in_order (leaf_cmp t) (option_to_list o) ≡ option_to_list o

@@ -3,7 +3,7 @@ use Rattle.proof_prelude.proofs.{length-map, ◌≡◌, ℕ, zero, suc, ◌<◌,
 use Rattle.std.specs.FinMap.{find}
 use Rattle.std.specs.Cmp.{both_ways}
 use Rattle.rev_core.specs.{RevId, rev_cmp, rev_tie_is, rev_tie_self, is_among}
-use Rattle.rev_tree.specs.{ContentValue, TreeValue, joined, is_parent, get-joined, get-joined_known, some_or, same_joined, child_of_parent, parent_from_child, with_rev, with_edge, with_content, revs_in, rev_at, node_of, Distinct, entries_of, parent_in, place_of, tree_of, IsNode, IsLinked, NodeValue, new_node, Origin}
+use Rattle.rev_tree.specs.{ContentValue, TreeValue, joined, is_parent, get-joined, get-joined_known, some_or, same_joined, child_of_parent, parent_from_child, with_rev, with_edge, with_content, revs_in, rev_at, node_of, Distinct, entries_of, parent_in, place_of, tree_of, IsNode, IsLinked, NodeValue, new_node, no_origin}
 use Rattle.rev_tree.proofs.Places.{is_some-node_of, node_rev, node_at, among_at, rev_at_place, node_of-push, place_unknown, revs_in-push, distinct_push, slice_get-append}
 use Rattle.rev_tree.proofs.Setting.{revs_in-set, node_of-set}
 use Rattle.rev_tree.proofs.Views.{part, get-origins, get-parents, get-contents, joined_entries, same_entries}
@@ -82,7 +82,7 @@ marked_set nodes mark after k n m h at same low told others = record {
 -- ---- the content of a node
 
 abbrev pub with_body : NodeValue → ContentValue → NodeValue
-with_body n b = record { rev = n.rev; parent = n.parent; content = Some b; origin = n.origin; has_child = n.has_child }
+with_body n b = record { rev = n.rev; parent = n.parent; content = Some b; has_child = n.has_child }
 
 module _ (nodes : List NodeValue) (k : ℕ) (n : NodeValue) (linked : IsLinked nodes) (at : slice_get nodes k ≡ Some n) where
   same_node : node_of nodes n.rev ≡ Some n
@@ -102,7 +102,7 @@ module _ (nodes : List NodeValue) (k : ℕ) (n : NodeValue) (linked : IsLinked n
 
     pub tree_given : n.content ≡ None → (r : RevId) → slice_get (revs_in nodes) k ≡ Some r → tree_of (set nodes k (with_body n b)) ≡ with_content (tree_of nodes) r b
     tree_given none r is =
-        let os = part_kept (λ (x : NodeValue). Some x.origin) nodes linked.once k n (with_body n b) at refl refl in
+        let os = part_kept (λ (x : NodeValue). Some no_origin) nodes linked.once k n (with_body n b) at refl refl in
         let cs = part_filled (λ (x : NodeValue). x.content) nodes linked.once k n (with_body n b) at refl b none refl ∙ ap (λ q. joined (tree_of nodes).contents ((q, b) ∷ [])) (rev_is r is) in
         λ i. record { origins = os i; parents = given_parents i; contents = cs i }
 
@@ -138,10 +138,10 @@ given nodes k n m b linked at none is = subst (λ x. IsGiven nodes (set nodes k 
 -- ---- an edge
 
 abbrev pub with_parent : NodeValue → ℕ → NodeValue
-with_parent n j = record { rev = n.rev; parent = Some j; content = n.content; origin = n.origin; has_child = n.has_child }
+with_parent n j = record { rev = n.rev; parent = Some j; content = n.content; has_child = n.has_child }
 
 abbrev pub with_mark : NodeValue → NodeValue
-with_mark n = record { rev = n.rev; parent = n.parent; content = n.content; origin = n.origin; has_child = true }
+with_mark n = record { rev = n.rev; parent = n.parent; content = n.content; has_child = true }
 
 -- which revisions are parents after a new edge
 pub is_parent-edge : (t : TreeValue) (c p : RevId) → get t.parents c ≡ None → (q : RevId) → (is_parent t q || eq_by_cmp rev_cmp q p) ≡ is_parent (with_edge t c p) q
@@ -195,7 +195,7 @@ module _ (nodes : List NodeValue) (k j : ℕ) (n m : NodeValue) (linked : IsLink
 
   pub tree_linked : (c p : RevId) → slice_get (revs_in nodes) k ≡ Some c → slice_get (revs_in nodes) j ≡ Some p → tree_of (set (set nodes k (with_parent n j)) j (with_mark m)) ≡ with_edge (tree_of nodes) c p
   tree_linked c p is_child is_new =
-      let os = kept_twice (λ (x : NodeValue). Some x.origin) refl refl in
+      let os = kept_twice (λ (x : NodeValue). Some no_origin) refl refl in
       let cs = kept_twice (λ (x : NodeValue). x.content) refl refl in
       let ps =
       ap (λ revs. from_entries {R = rev_cmp} (entries_of (parent_in revs) (set (set nodes k (with_parent n j)) j (with_mark m)))) revs_linked
@@ -279,81 +279,84 @@ nobodys nodes d r none =
       | false ↦ λ _. refl
     ] refl
 
-module _ (nodes : List NodeValue) (r : RevId) (o : Origin) (linked : IsLinked nodes) (new : node_of nodes r ≡ None) where
-  once_added : Distinct (revs_in (nodes ++ new_node r o ∷ []))
-  once_added = subst Distinct (sym (revs_in-push nodes (new_node r o))) (distinct_push (revs_in nodes) r linked.once (sym (is_some-node_of nodes r) ∙ ap is_some new))
+module _ (nodes : List NodeValue) (r : RevId) (linked : IsLinked nodes) (new : node_of nodes r ≡ None) where
+  once_added : Distinct (revs_in (nodes ++ new_node r ∷ []))
+  once_added = subst Distinct (sym (revs_in-push nodes (new_node r))) (distinct_push (revs_in nodes) r linked.once (sym (is_some-node_of nodes r) ∙ ap is_some new))
 
-  added_origin : (x : Option NodeValue) (b : Bool) → part (λ n. Some n.origin) (option_or x (cond b (Some (new_node r o)) None)) ≡ option_or (part (λ n. Some n.origin) x) (cond b (Some o) None)
+  added_origin : (x : Option NodeValue) (b : Bool) → part (λ n. Some no_origin) (option_or x (cond b (Some (new_node r)) None)) ≡ option_or (part (λ n. Some no_origin) x) (cond b (Some no_origin) None)
   added_origin None true = refl
   added_origin None false = refl
   added_origin (Some x) b = refl
 
-  added_content : (x : Option NodeValue) (b : Bool) → part (λ n. n.content) (option_or x (cond b (Some (new_node r o)) None)) ≡ part (λ n. n.content) x
+  added_content : (x : Option NodeValue) (b : Bool) → part (λ n. n.content) (option_or x (cond b (Some (new_node r)) None)) ≡ part (λ n. n.content) x
   added_content None true = refl
   added_content None false = refl
   added_content (Some x) b = refl
 
-  added_parent : (x : Option NodeValue) (b : Bool) → ((n : NodeValue) → x ≡ Some n → IfSome n.parent (λ i. i < length nodes)) → part (parent_in (revs_in nodes ++ r ∷ [])) (option_or x (cond b (Some (new_node r o)) None)) ≡ part (parent_in (revs_in nodes)) x
+  added_parent : (x : Option NodeValue) (b : Bool) → ((n : NodeValue) → x ≡ Some n → IfSome n.parent (λ i. i < length nodes)) → part (parent_in (revs_in nodes ++ r ∷ [])) (option_or x (cond b (Some (new_node r)) None)) ≡ part (parent_in (revs_in nodes)) x
   added_parent None true h = refl
   added_parent None false h = refl
   added_parent (Some x) b h = rev_at_push (revs_in nodes) r x.parent (subst (λ l. IfSome x.parent (λ i. i < l)) (sym (length-revs_in nodes)) (h x refl))
 
-  parents_added : (tree_of (nodes ++ new_node r o ∷ [])).parents ≡ (tree_of nodes).parents
+  parents_added : (tree_of (nodes ++ new_node r ∷ [])).parents ≡ (tree_of nodes).parents
   parents_added =
-      ap (λ revs. from_entries {R = rev_cmp} (entries_of (parent_in revs) (nodes ++ new_node r o ∷ []))) (revs_in-push nodes (new_node r o))
-      ∙ same_entries (parent_in (revs_in nodes)) (parent_in (revs_in nodes ++ r ∷ [])) nodes (nodes ++ new_node r o ∷ []) linked.once once_added
-      (λ q. ap (part (parent_in (revs_in nodes ++ r ∷ []))) (node_of-push nodes (new_node r o) q) ∙ added_parent (node_of nodes q) (eq_by_cmp rev_cmp q r) (λ n e. (linked.each q n e).parent))
+      ap (λ revs. from_entries {R = rev_cmp} (entries_of (parent_in revs) (nodes ++ new_node r ∷ []))) (revs_in-push nodes (new_node r))
+      ∙ same_entries (parent_in (revs_in nodes)) (parent_in (revs_in nodes ++ r ∷ [])) nodes (nodes ++ new_node r ∷ []) linked.once once_added
+      (λ q. ap (part (parent_in (revs_in nodes ++ r ∷ []))) (node_of-push nodes (new_node r) q) ∙ added_parent (node_of nodes q) (eq_by_cmp rev_cmp q r) (λ n e. (linked.each q n e).parent))
 
-  pub tree_added : tree_of (nodes ++ new_node r o ∷ []) ≡ with_rev (tree_of nodes) r o
+  pub tree_added : tree_of (nodes ++ new_node r ∷ []) ≡ with_rev (tree_of nodes) r no_origin
   tree_added =
-      let more = nodes ++ new_node r o ∷ [] in
+      let more = nodes ++ new_node r ∷ [] in
       let os =
-      joined_entries (λ n. Some n.origin) (λ n. Some n.origin) nodes more ((r, o) ∷ []) linked.once once_added
-      (λ q. ap (part (λ n. Some n.origin)) (node_of-push nodes (new_node r o) q) ∙ added_origin (node_of nodes q) (eq_by_cmp rev_cmp q r)) in
+      joined_entries (λ n. Some no_origin) (λ n. Some no_origin) nodes more ((r, no_origin) ∷ []) linked.once once_added
+      (λ q. ap (part (λ n. Some no_origin)) (node_of-push nodes (new_node r) q) ∙ added_origin (node_of nodes q) (eq_by_cmp rev_cmp q r)) in
       let cs =
       same_entries (λ n. n.content) (λ n. n.content) nodes more linked.once once_added
-      (λ q. ap (part (λ n. n.content)) (node_of-push nodes (new_node r o) q) ∙ added_content (node_of nodes q) (eq_by_cmp rev_cmp q r)) in
+      (λ q. ap (part (λ n. n.content)) (node_of-push nodes (new_node r) q) ∙ added_content (node_of nodes q) (eq_by_cmp rev_cmp q r)) in
       λ i. record { origins = os i; parents = parents_added i; contents = cs i }
 
-  same_marks : (q : RevId) → is_parent (tree_of nodes) q ≡ is_parent (tree_of (nodes ++ new_node r o ∷ [])) q
+  same_marks : (q : RevId) → is_parent (tree_of nodes) q ≡ is_parent (tree_of (nodes ++ new_node r ∷ [])) q
   same_marks q = λ i. is_parent (record { origins = (tree_of nodes).origins; parents = sym parents_added i; contents = (tree_of nodes).contents }) q
 
-  the_new : (b : Bool) (n : NodeValue) → cond b (Some (new_node r o)) None ≡ Some n → n ≡ new_node r o
-  the_new true n h = sym (same_Some (new_node r o) n h)
+  the_new : (b : Bool) (n : NodeValue) → cond b (Some (new_node r)) None ≡ Some n → n ≡ new_node r
+  the_new true n h = sym (same_Some (new_node r) n h)
   the_new false n h = absurd (false≢true (ap is_some h))
 
-  longer : (p : Option ℕ) → IfSome p (λ i. i < length nodes) → IfSome p (λ i. i < length (nodes ++ new_node r o ∷ []))
+  longer : (p : Option ℕ) → IfSome p (λ i. i < length nodes) → IfSome p (λ i. i < length (nodes ++ new_node r ∷ []))
   longer None h = tt
-  longer (Some i) h = omega (arith, length-append nodes (new_node r o ∷ []))
+  longer (Some i) h = omega (arith, length-append nodes (new_node r ∷ []))
 
-  pub linked_added : IsLinked (nodes ++ new_node r o ∷ [])
+  pub linked_added : IsLinked (nodes ++ new_node r ∷ [])
   linked_added = record {
     once = once_added;
-    each = λ q n e. elim (some_or (node_of nodes q) _ n (sym (node_of-push nodes (new_node r o) q) ∙ e)) [
+    each = λ q n e. elim (some_or (node_of nodes q) _ n (sym (node_of-push nodes (new_node r) q) ∙ e)) [
       | inl old ↦ let own = linked.each q n old in record { parent = longer n.parent own.parent; child = own.child ∙ same_marks n.rev }
-      | inr two ↦ subst (IsNode (nodes ++ new_node r o ∷ [])) (sym (the_new (eq_by_cmp rev_cmp q r) n two.1)) (record { parent = tt; child = sym (nobodys nodes linked.once r new) ∙ same_marks r })
+      | inr two ↦ subst (IsNode (nodes ++ new_node r ∷ [])) (sym (the_new (eq_by_cmp rev_cmp q r) n two.1)) (record { parent = tt; child = sym (nobodys nodes linked.once r new) ∙ same_marks r })
     ];
   }
 
 -- the effect of a new revision
-pub record IsAdded (nodes after : List NodeValue) (r : RevId) (o : Origin) : Type 0 where
+pub record IsAdded (nodes after : List NodeValue) (r : RevId) : Type 0 where
   pub revs : revs_in after ≡ revs_in nodes ++ r ∷ []
   pub linked : IsLinked after
-  pub tree : tree_of after ≡ with_rev (tree_of nodes) r o
+  pub tree : tree_of after ≡ with_rev (tree_of nodes) r no_origin
   pub kept : (i : ℕ) (q : RevId) → slice_get (revs_in nodes) i ≡ Some q → slice_get (revs_in after) i ≡ Some q
 
-pub added : (nodes after : List NodeValue) (r : RevId) (o : Origin) → IsLinked nodes → place_of nodes r ≡ None → after ≡ nodes ++ new_node r o ∷ [] → IsAdded nodes after r o
-added nodes after r o linked new is =
+pub added : (nodes after : List NodeValue) (r : RevId) → IsLinked nodes → place_of nodes r ≡ None → after ≡ nodes ++ new_node r ∷ [] → IsAdded nodes after r
+added nodes after r linked new is =
     let none = place_unknown nodes r new in
-    subst (λ l. IsAdded nodes l r o) (sym is) (record {
-      revs = revs_in-push nodes (new_node r o);
-      linked = linked_added nodes r o linked none;
-      tree = tree_added nodes r o linked none;
-      kept = λ i q h. ap (λ l. slice_get l i) (revs_in-push nodes (new_node r o)) ∙ slice_get-append (revs_in nodes) (r ∷ []) i q h;
+    subst (λ l. IsAdded nodes l r) (sym is) (record {
+      revs = revs_in-push nodes (new_node r);
+      linked = linked_added nodes r linked none;
+      tree = tree_added nodes r linked none;
+      kept = λ i q h. ap (λ l. slice_get l i) (revs_in-push nodes (new_node r)) ∙ slice_get-append (revs_in nodes) (r ∷ []) i q h;
     })
 
+pub same_length : (nodes after : List NodeValue) → revs_in after ≡ revs_in nodes → length after ≡ length nodes
+same_length nodes after same = sym (length-revs_in after) ∙ ap length same ∙ length-revs_in nodes
+
 -- a revision that has a node is not added
-pub tree_known : (nodes : List NodeValue) (r : RevId) (o : Origin) (n : NodeValue) → IsLinked nodes → node_of nodes r ≡ Some n → tree_of nodes ≡ with_rev (tree_of nodes) r o
-tree_known nodes r o n linked is =
-    let os = same_joined (tree_of nodes).origins ((r, o) ∷ []) (ap (λ t. t && true) (ap is_some (get-origins nodes linked.once r ∙ ap (part (λ (x : NodeValue). Some x.origin)) is))) in
+pub tree_known : (nodes : List NodeValue) (r : RevId) (n : NodeValue) → IsLinked nodes → node_of nodes r ≡ Some n → tree_of nodes ≡ with_rev (tree_of nodes) r no_origin
+tree_known nodes r n linked is =
+    let os = same_joined (tree_of nodes).origins ((r, no_origin) ∷ []) (ap (λ t. t && true) (ap is_some (get-origins nodes linked.once r ∙ ap (part (λ (x : NodeValue). Some no_origin)) is))) in
     λ i. record { origins = sym os i; parents = (tree_of nodes).parents; contents = (tree_of nodes).contents }

@@ -1,14 +1,17 @@
 -- An empty list of nodes, and the empty tree.
 use Rattle.proof_prelude.proofs.{◌≡◌, [], sym, ap, ◌∙◌, is_some, arith, and_parts, false≢true, get-empty}
 use Rattle.rev_core.specs.{rev_cmp}
-use Rattle.rev_tree.specs.{IsTree, has, no_revisions, IsIndexed, PlacesValue}
+use Rattle.rev_tree.specs.{IsLinked, IsTree, has, no_revisions, IsIndexed, PlacesValue}
 use Rattle.rev_tree.proofs.Tournaments.{empty_played}
+
+pub IsLinked-none : IsLinked []
+IsLinked-none = record { once = tt; each = λ r n h. absurd (false≢true (ap is_some h)) }
 
 pub IsIndexed-none : (places : PlacesValue) → places.entries ≡ [] → places.winners ≡ [] → places.entered ≡ 0 → IsIndexed [] places
 IsIndexed-none places entries winners entered = record {
   few = omega arith;
   index = entries;
-  linked = record { once = tt; each = λ r n h. absurd (false≢true (ap is_some h)) };
+  linked = IsLinked-none;
   played = empty_played [] places.winners places.entered winners entered;
 }
 

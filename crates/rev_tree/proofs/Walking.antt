@@ -4,7 +4,7 @@ use Rattle.rev_core.specs.{RevId, rev_cmp}
 use Rattle.rev_tree.specs.{TreeValue, IsTree, has, ancestors, walk, ancestors_step, ancestors_last, revs_in, rev_at, place_of, tree_of, IsLinked, ancestors_at, NodeValue}
 use Rattle.rev_tree.proofs.Places.{node_at, rev_at_place, place_known}
 use Rattle.rev_tree.proofs.Linking.{length-revs_in}
-use Rattle.rev_tree.proofs.Lookups.{has_is, parent_is}
+use Rattle.rev_tree.proofs.Lookups.{Shows, shows_itself, has_is, parent_is}
 
 -- the generation at an index
 abbrev pub generation_at : List NodeValue → ℕ → ℕ
@@ -30,7 +30,7 @@ module _ (nodes : List NodeValue) (linked : IsLinked nodes) (i : ℕ) (n : NodeV
   ancestors_here = ap (λ o. option_map_or (ancestors (tree_of nodes)) o []) (rev_at_place nodes i n at)
 
   known_parent : get (tree_of nodes).parents n.rev ≡ rev_at (revs_in nodes) n.parent
-  known_parent = parent_is nodes (tree_of nodes) n.rev (Some n) linked refl (node_at nodes linked.once i n at)
+  known_parent = parent_is nodes (tree_of nodes) n.rev (Some n) linked (shows_itself nodes) (node_at nodes linked.once i n at)
 
   pub step : IsTree (tree_of nodes) → (p : ℕ) → n.parent ≡ Some p → IsStep nodes i p n
   step tree p is =
@@ -61,11 +61,11 @@ pub record IsPlaceOf (nodes : List NodeValue) (t : TreeValue) (q : RevId) (i : �
   pub known : has t q ≡ true
   pub walk : ancestors_at nodes i ≡ ancestors t q
 
-pub place_is : (nodes : List NodeValue) (t : TreeValue) (q : RevId) (i : ℕ) → IsLinked nodes → tree_of nodes ≡ t → place_of nodes q ≡ Some i → IsPlaceOf nodes t q i
+pub place_is : (nodes : List NodeValue) (t : TreeValue) (q : RevId) (i : ℕ) → IsLinked nodes → Shows nodes t → place_of nodes q ≡ Some i → IsPlaceOf nodes t q i
 place_is nodes t q i linked view found =
     let f = place_known nodes q i found in
     record {
       within = f.within;
       known = has_is nodes t q (Some f.node) linked view f.found;
-      walk = ancestors_here nodes linked i f.node f.at ∙ ap (ancestors (tree_of nodes)) f.rev ∙ ap (λ u. ancestors u q) view;
+      walk = ancestors_here nodes linked i f.node f.at ∙ ap (ancestors (tree_of nodes)) f.rev ∙ ap (λ m. walk m q.generation q) view.parents;
     }

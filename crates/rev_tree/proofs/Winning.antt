@@ -3,7 +3,7 @@ use Rattle.proof_prelude.proofs.{◌≡◌, ℕ, ◌<◌, length, arith, List, [
 use Rattle.rev_core.specs.{RevId, rev_cmp, rev_tie_self, IsAncestry, edges_of, is_among}
 use Rattle.rev_tree.specs.{ContentValue, in_order, first_of, first_of-placed, better, in_order-cons, in_order-nil, any-in_order, TreeValue, IsTree, at_head, first_contradiction, is_deleted, is_leaf, is_parent, leaf_cmp, leaves, merged, no_revisions, IsTree-merged, get-joined_known, has-merged_given, head_is, leaf_cases, any_agree, is_among-leaves, leaf_above, leaf_cmp_exact, leaf_cmp_total, leaf_tie, NodeValue, IsBestLeaf, IsLed, IsLinked, deletes, goes_before, place_of, revs_in, tree_of, AddsHead, Origin}
 use Rattle.rev_tree.proofs.Places.{node_at, place_known, place_unknown, rev_at_place}
-use Rattle.rev_tree.proofs.Lookups.{content_is, leaf_is}
+use Rattle.rev_tree.proofs.Lookups.{shows_itself, content_is, leaf_is}
 use Rattle.rev_tree.proofs.Starts.{IsTree-no_revisions}
 use Rattle.rev_tree.proofs.Views.{has-tree_of}
 
@@ -207,14 +207,14 @@ no_leaf r = ap (λ c. is_some c && not (is_parent no_revisions r)) (get-empty re
 
 module _ (nodes : List NodeValue) (linked : IsLinked nodes) (k : ℕ) (n : NodeValue) (at : slice_get nodes k ≡ Some n) where
   pub leaf_at : is_leaf (tree_of nodes) n.rev ≡ not n.has_child
-  leaf_at = leaf_is nodes (tree_of nodes) n.rev (Some n) linked refl (node_at nodes linked.once k n at)
+  leaf_at = leaf_is nodes (tree_of nodes) n.rev (Some n) linked (shows_itself nodes) (node_at nodes linked.once k n at)
 
   pub deleted_at : is_deleted (tree_of nodes) n.rev ≡ deletes n
-  deleted_at = ap (λ c. option_map_or (λ (x : ContentValue). x.deleted) c false) (content_is nodes (tree_of nodes) n.rev (Some n) linked refl (node_at nodes linked.once k n at))
+  deleted_at = ap (λ c. option_map_or (λ (x : ContentValue). x.deleted) c false) (content_is nodes (tree_of nodes) n.rev (Some n) linked (shows_itself nodes) (node_at nodes linked.once k n at))
 
   pub goes_before_at : (j : ℕ) (m : NodeValue) → slice_get nodes j ≡ Some m → goes_before n (Some m) ≡ is_lt (leaf_cmp (tree_of nodes) n.rev m.rev)
   goes_before_at j m there =
-      let other = ap (λ c. option_map_or (λ (x : ContentValue). x.deleted) c false) (content_is nodes (tree_of nodes) m.rev (Some m) linked refl (node_at nodes linked.once j m there)) in
+      let other = ap (λ c. option_map_or (λ (x : ContentValue). x.deleted) c false) (content_is nodes (tree_of nodes) m.rev (Some m) linked (shows_itself nodes) (node_at nodes linked.once j m there)) in
       λ i. is_lt (ordering_then (bool_cmp (sym deleted_at i) (sym other i)) (rev_cmp m.rev n.rev))
 
 -- ---- after an ancestry was inserted
@@ -298,7 +298,7 @@ best_wins nodes linked p b r first =
     low = won.least b.node.rev (leaf_at nodes linked p b.node b.at ∙ ap not b.leaf)
 
     go : (o : Option ℕ) → place_of nodes r ≡ o → is_lt (leaf_cmp (tree_of nodes) r b.node.rev) ≡ false
-    go None e = absurd (false≢true (sym (leaf_is nodes (tree_of nodes) r None linked refl (place_unknown nodes r e)) ∙ won.leaf))
+    go None e = absurd (false≢true (sym (leaf_is nodes (tree_of nodes) r None linked (shows_itself nodes) (place_unknown nodes r e)) ∙ won.leaf))
     go (Some j) e =
         let n = place_known nodes r j e in
         let leaf : n.node.has_child ≡ false = not-true _ (sym (leaf_at nodes linked j n.node n.at) ∙ ap (is_leaf (tree_of nodes)) n.rev ∙ won.leaf) in

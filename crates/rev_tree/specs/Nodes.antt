@@ -14,6 +14,7 @@ use Rattle.rev_tree.specs.Node.{NodeValue}
 use Rattle.rev_tree.specs.Room.{HasIndexRoom}
 use Rattle.rev_tree.specs.Steps.{with_rev}
 use Rattle.rev_tree.specs.declared.origin.Origin.{Origin}
+use Rattle.rev_tree.specs.declared.origin.Origin.TheVariants.{Local}
 
 -- The revision of each node of a list, in the order of the list.
 abbrev pub revs_in : List NodeValue → List RevId
@@ -57,10 +58,15 @@ abbrev pub entries_of : {X : Type 0} → (NodeValue → Option X) → List NodeV
 entries_of f [] = []
 entries_of f (n ∷ nodes) = entry_of n.rev (f n) ++ entries_of f nodes
 
--- The revision tree that a list of nodes represents.
+-- The origin that `tree_of` gives each revision. Nodes have no origins, because a tree stores the origins of its
+-- revisions itself.
+abbrev pub no_origin : Origin
+no_origin = Local 0
+
+-- The revision tree that a list of nodes represents, with `no_origin` as the origin of each revision.
 abbrev pub tree_of : List NodeValue → TreeValue
 tree_of nodes = record {
-  origins = finmap.from_entries (entries_of (λ n. Some n.origin) nodes);
+  origins = finmap.from_entries (entries_of (λ n. Some no_origin) nodes);
   parents = finmap.from_entries (entries_of (parent_in (revs_in nodes)) nodes);
   contents = finmap.from_entries (entries_of (λ n. n.content) nodes);
 }
@@ -123,8 +129,9 @@ pub record HasRoom (v : NodesValue) (more : ℕ) : Type 0 where
 -- The effect of adding revision r to the list of nodes `old`, which gives the list `new`. The node of the revision r is
 -- at position k of the list `new`, and the nodes of `old` keep their positions. If the revision r is new, adding its
 -- node uses the reserved space for one node. If r is not new, adding r uses no space.
-pub record HasGained (old new : NodesValue) (r : RevId) (origin : Origin) (k : ℕ) : Type 0 where
-  pub tree : tree_of new.items ≡ with_rev (tree_of old.items) r origin
+pub record HasGained (old new : NodesValue) (r : RevId) (k : ℕ) : Type 0 where
+  pub tree : tree_of new.items ≡ with_rev (tree_of old.items) r no_origin
   pub at : slice_get (revs_in new.items) k ≡ Some r
   pub kept : (i : ℕ) (q : RevId) → slice_get (revs_in old.items) i ≡ Some q → slice_get (revs_in new.items) i ≡ Some q
+  pub len : length new.items ≤ length old.items + 1
   pub room : (more : ℕ) → HasRoom old (unless_among (revs_in old.items) r + more) → HasRoom new more

@@ -10,6 +10,7 @@ mod merging;
 mod node;
 mod nodes;
 mod origin;
+mod origins;
 mod place_index;
 mod revs;
 mod shared_nodes;

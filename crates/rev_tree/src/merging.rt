@@ -7,13 +7,12 @@ ghost use Rattle.rev_core.specs.SmallRev.{blocks_of};
 ghost use Rattle.rev_core.specs.Ancestry.{IsAncestry, edges_of};
 ghost use Rattle.rev_tree.specs.Tree.{merged, has_edge, first_contradiction, leaves};
 ghost use Rattle.rev_tree.specs.InOrder.{first_of};
-ghost use Rattle.rev_tree.specs.Nodes.{HasGained, HasRoom, IsLed, IsLinked, count_blocks, count_new, place_of, rev_at, revs_in, tree_of, unless_among};
+ghost use Rattle.rev_tree.specs.Nodes.{HasGained, HasRoom, IsLed, IsLinked, count_blocks, count_new, no_origin, place_of, rev_at, revs_in, tree_of, unless_among};
 
 use crate::content::Content;
 use crate::fault::Contradiction;
 use crate::node::Node;
 use crate::nodes::Nodes;
-use crate::origin::Origin;
 use rev_core::{Rev, Sig};
 use std::alloc::AllocError;
 
@@ -91,17 +90,20 @@ impl Nodes {
         best: usize,
         revs: &[Rev],
         content: Content,
-        origin: Origin,
     ) -> Result<usize, AllocError>
         requires led { IsLed self.old.items best }
         requires ancestry { IsAncestry revs.now }
         requires none { first_contradiction (tree_of self.old.items).parents (edges_of revs.now) ≡ None }
-        ensures tree { OnOk result (tree_of self.new.items ≡ merged (tree_of self.old.items) revs.now content origin) }
+        ensures tree { OnOk result (tree_of self.new.items ≡ merged (tree_of self.old.items) revs.now content no_origin) }
         ensures best { IfOk result (λ b. slice_get (revs_in self.new.items) b ≡ first_of (leaves (tree_of self.new.items))) }
+        ensures kept { (i : ℕ) (r : RevId)
+            → slice_get (revs_in self.old.items) i ≡ Some r
+            → slice_get (revs_in self.new.items) i ≡ Some r }
+        ensures len { length self.new.items ≤ length self.old.items + length revs.now }
         ensures err { OnErr result (self.new.items ≡ self.old.items) }
     {
         let mut blocks = self.make_room(revs)?;
-        let best = self.put(best, revs, content, origin, &mut blocks);
+        let best = self.put(best, revs, content, &mut blocks);
         self.give_back();
         Ok(best)
     }
@@ -114,7 +116,6 @@ impl Nodes {
         best: usize,
         revs: &[Rev],
         content: Content,
-        origin: Origin,
         blocks: &mut Vec<Box<Sig>>,
     ) -> usize
         requires led { IsLed self.old.items best }
@@ -122,14 +123,18 @@ impl Nodes {
         requires none { first_contradiction (tree_of self.old.items).parents (edges_of revs.now) ≡ None }
         requires room { HasRoom self.old (count_new (revs_in self.old.items) revs.now) }
         requires blocks { count_blocks revs.now ≤ length blocks.old.items }
-        ensures tree { tree_of self.new.items ≡ merged (tree_of self.old.items) revs.now content origin }
+        ensures tree { tree_of self.new.items ≡ merged (tree_of self.old.items) revs.now content no_origin }
         ensures best { slice_get (revs_in self.new.items) result ≡ first_of (leaves (tree_of self.new.items)) }
+        ensures kept { (i : ℕ) (r : RevId)
+            → slice_get (revs_in self.old.items) i ≡ Some r
+            → slice_get (revs_in self.new.items) i ≡ Some r }
+        ensures len { length self.new.items ≤ length self.old.items + length revs.now }
     {
         if self.all().is_empty() {
-            self.put_first(revs, content, origin, blocks);
+            self.put_first(revs, content, blocks);
             0
         } else {
-            let head = self.put_among(revs, content, origin, blocks);
+            let head = self.put_among(revs, content, blocks);
             self.winner_after(best, head)
         }
     }
@@ -140,20 +145,19 @@ impl Nodes {
         &mut self,
         revs: &[Rev],
         content: Content,
-        origin: Origin,
         blocks: &mut Vec<Box<Sig>>,
     )
         requires none { self.old.items ≡ [] }
         requires ancestry { IsAncestry revs.now }
         requires room { HasRoom self.old (count_new (revs_in self.old.items) revs.now) }
         requires blocks { count_blocks revs.now ≤ length blocks.old.items }
-        ensures tree { tree_of self.new.items ≡ merged (tree_of self.old.items) revs.now content origin }
+        ensures tree { tree_of self.new.items ≡ merged (tree_of self.old.items) revs.now content no_origin }
         ensures revs { revs_in self.new.items ≡ revs.now }
     {
-        let mut child = self.push(&revs[0], origin, blocks);
+        let mut child = self.push(&revs[0], blocks);
         self.give(child, content);
         for i in 1..revs.len() {
-            let parent = self.push(&revs[i], origin, blocks);
+            let parent = self.push(&revs[i], blocks);
             self.link(child, parent);
             child = parent;
         }
@@ -165,49 +169,48 @@ impl Nodes {
         &mut self,
         revs: &[Rev],
         content: Content,
-        origin: Origin,
         blocks: &mut Vec<Box<Sig>>,
     ) -> usize
         requires some { 0 < length revs.now }
         requires room { HasRoom self.old (count_new (revs_in self.old.items) revs.now) }
         requires blocks { count_blocks revs.now ≤ length blocks.old.items }
-        ensures tree { tree_of self.new.items ≡ merged (tree_of self.old.items) revs.now content origin }
+        ensures tree { tree_of self.new.items ≡ merged (tree_of self.old.items) revs.now content no_origin }
         ensures head { slice_get (revs_in self.new.items) result ≡ slice_get revs.now 0 }
         ensures kept { (i : ℕ) (r : RevId)
             → slice_get (revs_in self.old.items) i ≡ Some r
             → slice_get (revs_in self.new.items) i ≡ Some r }
+        ensures len { length self.new.items ≤ length self.old.items + length revs.now }
     {
-        let head = self.add(None, &revs[0], origin, blocks);
+        let head = self.add(None, &revs[0], blocks);
         let mut child = head;
         self.give(child, content);
         for i in 1..revs.len() {
             let near = self.near(child);
-            let parent = self.add(near, &revs[i], origin, blocks);
+            let parent = self.add(near, &revs[i], blocks);
             self.link(child, parent);
             child = parent;
         }
         head
     }
 
-    /// Returns the index of a revision's node, after appending a node with the given origin if the revision has no
+    /// Returns the index of a revision's node, after appending a node if the revision has no
     /// node. The call first checks whether the node at index `near` holds the revision. The caller has reserved the
     /// space for the node, and gives the heap block that the revision may need.
     fn add(
         &mut self,
         near: Option<usize>,
         rev: &Rev,
-        origin: Origin,
         blocks: &mut Vec<Box<Sig>>,
     ) -> usize
         requires near { IfSome near (λ i. i < length self.old.items) }
         requires room { HasRoom self.old (unless_among (revs_in self.old.items) rev.now) }
         requires blocks { blocks_of rev.now ≤ length blocks.old.items }
-        ensures gained { HasGained self.old self.new rev.now origin result }
+        ensures gained { HasGained self.old self.new rev.now result }
         ensures blocks { length blocks.old.items ≤ length blocks.new.items + blocks_of rev.now }
     {
         match self.place_near(near, rev) {
             Some(place) => place,
-            None => self.push(rev, origin, blocks),
+            None => self.push(rev, blocks),
         }
     }
 

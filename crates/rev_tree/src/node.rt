@@ -1,59 +1,44 @@
 //! A node of a tree, which holds a revision and the tree's data about the revision.
-ghost use Rattle.std.specs.Prelude.{◌≡◌, ◌+◌, ◌<◌, ◌^◌, Some, None, IfOk, true, false};
+ghost use Rattle.std.specs.Prelude.{◌≡◌, ◌+◌, ◌<◌, ◌^◌, Some, IfOk, true};
 ghost use Rattle.std.specs.Option.{option_copied};
 ghost use Rattle.std.specs.Ordering.{eq_by_cmp};
 ghost use Rattle.rev_core.specs.Rev.{IsRev, rev_cmp};
-ghost use Rattle.rev_tree.specs.Node.{counted_of, marks_of, content_of, new_node};
+ghost use Rattle.rev_tree.specs.Node.{counted_of, has_child_of, content_of, new_node};
 
 use crate::content::Content;
-use crate::origin::{Origin, SessionId};
 use crate::words::is_same;
 use rev_core::{Rev, SmallRev};
 use std::alloc::{AllocError, Global};
 use std::marker::Model;
 
-/// The number of values of a 64-bit integer, 2^64. A session's 128-bit number is stored as two 64-bit integers.
-const HALF: u128 = 1 << 64;
-
-/// A node: a revision and the revision's origin. The field `known` has the node's flags, the index of the parent and
-/// the content.
+/// A node: a revision, whether the revision has a child, the index of its parent, and its content. The origins of a
+/// tree's revisions are stored by the tree (`Origins`).
 ///
-/// A tree may have millions of nodes, so a node is small. A session's number is stored as two 64-bit halves because a
-/// `u128` is aligned to 16 bytes.
+/// A tree may have millions of nodes, so a node is small.
 #[derive(Drop)]
 pub(crate) struct Node {
     rev: SmallRev,
     known: Known,
-    session_high: u64,
-    session_low: u64,
-    number: u64,
 }
 
-/// The flags of a node: whether the node's origin is a feed, and whether the node has a child.
-#[derive(Clone, Copy)]
-pub(crate) struct Marks {
-    is_fed: bool,
-    has_child: bool,
-}
-
-/// The flags of a node, the index of its parent, and its content if the content is known.
+/// Whether a node has a child, the index of its parent, and its content if the content is known.
 ///
-/// One enum holds the flags, the index and the content, because the flags and the index fit into the padding after the
-/// enum's tag. The index of the parent is counted from 1, and is 0 if no parent is known.
+/// One enum holds the three, because the Boolean and the index fit into the padding after the enum's tag. The index of
+/// the parent is counted from 1, and is 0 if no parent is known.
 #[derive(Drop)]
 pub(crate) enum Known {
-    Bare(Marks, u32),
-    Full(Marks, u32, Content),
+    Bare(bool, u32),
+    Full(bool, u32, Content),
 }
 
 impl Known {
-    /// Returns the flags.
-    fn marks(&self) -> Marks
-        ensures { result ≡ marks_of self.now }
+    /// Whether the node has a child.
+    fn has_child(&self) -> bool
+        ensures { result ≡ has_child_of self.now }
     {
         match self {
-            Known::Bare(marks, _) => *marks,
-            Known::Full(marks, _, _) => *marks,
+            Known::Bare(has_child, _) => *has_child,
+            Known::Full(has_child, _, _) => *has_child,
         }
     }
 
@@ -77,21 +62,21 @@ impl Known {
         }
     }
 
-    /// Replaces the flags.
-    fn mark(&mut self, marks: Marks)
-        ensures marks { marks_of self.new ≡ marks }
+    /// Notes that the node has a child.
+    fn mark(&mut self)
+        ensures has_child { has_child_of self.new ≡ true }
         ensures parent { counted_of self.new ≡ counted_of self.old }
         ensures content { content_of self.new ≡ content_of self.old }
     {
         match self {
-            Known::Bare(old, _) => *old = marks,
-            Known::Full(old, _, _) => *old = marks,
+            Known::Bare(has_child, _) => *has_child = true,
+            Known::Full(has_child, _, _) => *has_child = true,
         }
     }
 
     /// Sets the index of the parent, counted from 1.
     fn name_parent(&mut self, parent: u32)
-        ensures marks { marks_of self.new ≡ marks_of self.old }
+        ensures has_child { has_child_of self.new ≡ has_child_of self.old }
         ensures parent { counted_of self.new ≡ parent }
         ensures content { content_of self.new ≡ content_of self.old }
     {
@@ -106,17 +91,17 @@ impl Known {
         ensures { IfOk result (λ k. k ≡ self.now) }
     {
         match self {
-            Known::Bare(marks, parent) => Ok(Known::Bare(*marks, *parent)),
-            Known::Full(marks, parent, content) => {
+            Known::Bare(has_child, parent) => Ok(Known::Bare(*has_child, *parent)),
+            Known::Full(has_child, parent, content) => {
                 let content = content.copy()?;
-                Ok(Known::Full(*marks, *parent, content))
+                Ok(Known::Full(*has_child, *parent, content))
             }
         }
     }
 }
 
 impl Model for Node {
-    ghost use Rattle.rev_tree.specs.Node.{NodeValue, parent_of, origin_of, counted_of, marks_of, content_of};
+    ghost use Rattle.rev_tree.specs.Node.{NodeValue, parent_of, counted_of, has_child_of, content_of};
 
     ghost Value = { NodeValue };
 
@@ -124,30 +109,18 @@ impl Model for Node {
       rev = n.rev;
       parent = parent_of (counted_of n.known);
       content = content_of n.known;
-      origin = origin_of (marks_of n.known).is_fed n.session_high n.session_low n.number;
-      has_child = (marks_of n.known).has_child;
+      has_child = has_child_of n.known;
     } };
 }
 
 impl Node {
     /// Creates a node without parent, content or child.
-    pub(crate) fn new(rev: SmallRev, origin: Origin) -> Node
-        ensures { result ≡ new_node rev origin }
+    pub(crate) fn new(rev: SmallRev) -> Node
+        ensures { result ≡ new_node rev }
     {
-        let (is_fed, session, number) = match origin {
-            Origin::Local(number) => (false, 0, number),
-            Origin::Feed(session, number) => (true, session.0, number),
-        };
-        let marks = Marks {
-            is_fed,
-            has_child: false,
-        };
         Node {
             rev,
-            known: Known::Bare(marks, 0),
-            session_high: (session / HALF) as u64,
-            session_low: (session % HALF) as u64,
-            number,
+            known: Known::Bare(false, 0),
         }
     }
 
@@ -202,23 +175,11 @@ impl Node {
         self.known.content()
     }
 
-    /// Returns the origin.
-    pub(crate) fn origin(&self) -> Origin
-        ensures { result ≡ self.now.origin }
-    {
-        if self.known.marks().is_fed {
-            let session = self.session_high as u128 * HALF + self.session_low as u128;
-            Origin::Feed(SessionId(session), self.number)
-        } else {
-            Origin::Local(self.number)
-        }
-    }
-
     /// Whether the node is the parent of another node.
     pub(crate) fn has_child(&self) -> bool
         ensures { result ≡ self.now.has_child }
     {
-        self.known.marks().has_child
+        self.known.has_child()
     }
 
     /// Sets the content.
@@ -227,11 +188,10 @@ impl Node {
           rev = self.old.rev;
           parent = self.old.parent;
           content = Some content;
-          origin = self.old.origin;
           has_child = self.old.has_child;
         } }
     {
-        self.known = Known::Full(self.known.marks(), self.known.parent(), content);
+        self.known = Known::Full(self.known.has_child(), self.known.parent(), content);
     }
 
     /// Sets the index of the parent.
@@ -241,7 +201,6 @@ impl Node {
           rev = self.old.rev;
           parent = Some place;
           content = self.old.content;
-          origin = self.old.origin;
           has_child = self.old.has_child;
         } }
     {
@@ -254,15 +213,10 @@ impl Node {
           rev = self.old.rev;
           parent = self.old.parent;
           content = self.old.content;
-          origin = self.old.origin;
           has_child = true;
         } }
     {
-        let marks = Marks {
-            is_fed: self.known.marks().is_fed,
-            has_child: true,
-        };
-        self.known.mark(marks);
+        self.known.mark();
     }
 
     /// Copies the node.
@@ -271,12 +225,6 @@ impl Node {
     {
         let known = self.known.copy()?;
         let rev = self.rev.copy(alloc)?;
-        Ok(Node {
-            rev,
-            known,
-            session_high: self.session_high,
-            session_low: self.session_low,
-            number: self.number,
-        })
+        Ok(Node { rev, known })
     }
 }

@@ -9,11 +9,9 @@ ghost use Rattle.rev_tree.specs.Steps.{with_edge, with_content};
 ghost use Rattle.rev_tree.specs.InOrder.{first_of};
 ghost use Rattle.rev_tree.specs.Tree.{leaves};
 ghost use Rattle.rev_tree.specs.declared.nodes.TheConstants.{MOST_WALKED};
-ghost use Rattle.rev_tree.specs.declared.origin.Origin.TheVariants.{Local, Feed};
 
 use crate::content::Content;
 use crate::node::Node;
-use crate::origin::{Origin, SessionId};
 use crate::place_index::Places;
 use rev_core::{Rev, Sig, SmallRev};
 use std::alloc::{AllocError, Global};
@@ -146,19 +144,19 @@ impl Nodes {
         fit_index(&mut self.places);
     }
 
-    /// Appends a node for a new revision with the given origin, and returns the node's index. The caller has reserved
+    /// Appends a node for a new revision, and returns the node's index. The caller has reserved
     /// the space for the node, and gives the heap block that the revision may need.
     #[inline(always)]
-    pub(crate) fn push(&mut self, rev: &Rev, origin: Origin, blocks: &mut Vec<Box<Sig>>) -> usize
+    pub(crate) fn push(&mut self, rev: &Rev, blocks: &mut Vec<Box<Sig>>) -> usize
         requires new { place_of self.old.items rev.now ≡ None }
         requires room { HasRoom self.old 1 }
         requires blocks { blocks_of rev.now ≤ length blocks.old.items }
-        ensures gained { HasGained self.old self.new rev.now origin result }
+        ensures gained { HasGained self.old self.new rev.now result }
         ensures revs { revs_in self.new.items ≡ revs_in self.old.items ++ rev.now ∷ [] }
         ensures blocks { length blocks.old.items ≤ length blocks.new.items + blocks_of rev.now }
     {
         let place = self.list.as_slice().len();
-        push_node(&mut self.list, rev, origin, blocks);
+        push_node(&mut self.list, rev, blocks);
         index_rest(&self.list, &mut self.places, place);
         place
     }
@@ -347,59 +345,33 @@ fn index_from(nodes: &[Node], places: &mut Places, first: usize)
 
 /// Appends a node for a revision to a list with space for the node.
 #[inline(always)]
-fn push_node(list: &mut Vec<Node>, rev: &Rev, origin: Origin, blocks: &mut Vec<Box<Sig>>)
+fn push_node(list: &mut Vec<Node>, rev: &Rev, blocks: &mut Vec<Box<Sig>>)
     requires space { vec_len list.old < vec_capacity list.old }
     requires blocks { blocks_of rev.now ≤ length blocks.old.items }
-    ensures items { list.new.items ≡ list.old.items ++ new_node rev.now origin ∷ [] }
+    ensures items { list.new.items ≡ list.old.items ++ new_node rev.now ∷ [] }
     ensures len { vec_len list.new ≡ vec_len list.old + 1 }
     ensures capacity { vec_capacity list.new ≡ vec_capacity list.old }
     ensures blocks { length blocks.old.items ≤ length blocks.new.items + blocks_of rev.now }
 {
     if SmallRev::is_long(rev) {
-        // The origin is passed as separate numbers, not by reference, so that the compiler can keep `origin` in
-        // registers.
-        match origin {
-            Origin::Local(number) => push_long_local(list, rev, number, blocks),
-            Origin::Feed(session, number) => push_long_fed(list, rev, session.0, number, blocks),
-        }
+        push_long(list, rev, blocks);
     } else {
-        list.push_reserved(Node::new(SmallRev::inline(rev), origin));
+        list.push_reserved(Node::new(SmallRev::inline(rev)));
     }
 }
 
-/// Appends a node for a revision of a local write. The node stores the revision's signature in a heap block.
+/// Appends a node for a revision. The node stores the revision's signature in a heap block.
 #[inline(never)]
-fn push_long_local(list: &mut Vec<Node>, rev: &Rev, number: u64, blocks: &mut Vec<Box<Sig>>)
+fn push_long(list: &mut Vec<Node>, rev: &Rev, blocks: &mut Vec<Box<Sig>>)
     requires space { vec_len list.old < vec_capacity list.old }
     requires blocks { 0 < length blocks.old.items }
-    ensures items { list.new.items ≡ list.old.items ++ new_node rev.now (Local number) ∷ [] }
+    ensures items { list.new.items ≡ list.old.items ++ new_node rev.now ∷ [] }
     ensures len { vec_len list.new ≡ vec_len list.old + 1 }
     ensures capacity { vec_capacity list.new ≡ vec_capacity list.old }
     ensures blocks { length blocks.old.items ≡ length blocks.new.items + 1 }
 {
     let small = SmallRev::long(rev, blocks);
-    list.push_reserved(Node::new(small, Origin::Local(number)));
-}
-
-/// Appends a node for a revision that came from a session's feed. The node stores the revision's signature in a heap
-/// block.
-#[inline(never)]
-fn push_long_fed(
-    list: &mut Vec<Node>,
-    rev: &Rev,
-    session: u128,
-    number: u64,
-    blocks: &mut Vec<Box<Sig>>,
-)
-    requires space { vec_len list.old < vec_capacity list.old }
-    requires blocks { 0 < length blocks.old.items }
-    ensures items { list.new.items ≡ list.old.items ++ new_node rev.now (Feed (record { 0 = session }) number) ∷ [] }
-    ensures len { vec_len list.new ≡ vec_len list.old + 1 }
-    ensures capacity { vec_capacity list.new ≡ vec_capacity list.old }
-    ensures blocks { length blocks.old.items ≡ length blocks.new.items + 1 }
-{
-    let small = SmallRev::long(rev, blocks);
-    list.push_reserved(Node::new(small, Origin::Feed(SessionId(session), number)));
+    list.push_reserved(Node::new(small));
 }
 
 /// Allocates a heap block for each revision whose signature has more than 32 bytes.

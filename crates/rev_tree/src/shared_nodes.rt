@@ -1,5 +1,5 @@
 //! Nodes that trees share until one of the trees changes.
-ghost use Rattle.std.specs.Prelude.{◌≡◌, ◌<◌, [], Some, None, IfOk, IfErr, OnErr, OnOk, true, filter, length, slice_get};
+ghost use Rattle.std.specs.Prelude.{◌≡◌, ℕ, ◌+◌, ◌<◌, ◌≤◌, [], Some, None, IfOk, IfErr, OnErr, OnOk, true, filter, length, slice_get};
 ghost use Rattle.std.specs.Arc.{arc_value};
 ghost use Rattle.std.specs.List.{list_all};
 ghost use Rattle.std.specs.Option.{option_copied};
@@ -7,14 +7,13 @@ ghost use Rattle.rev_core.specs.Rev.{RevId};
 ghost use Rattle.rev_core.specs.Ancestry.{IsAncestry, edges_of, is_among};
 ghost use Rattle.rev_tree.specs.InOrder.{first_of};
 ghost use Rattle.rev_tree.specs.Tree.{IsTree, first_contradiction, has, has_edge, leaves, merged};
-ghost use Rattle.rev_tree.specs.Nodes.{IsLed, IsLinked, node_of, place_of, revs_in, tree_of};
+ghost use Rattle.rev_tree.specs.Nodes.{IsLed, IsLinked, no_origin, node_of, place_of, revs_in, tree_of};
 ghost use Rattle.rev_tree.specs.Walks.{ancestors_at, is_above_one};
 
 use crate::content::Content;
 use crate::fault::Contradiction;
 use crate::node::Node;
 use crate::nodes::Nodes;
-use crate::origin::Origin;
 use rev_core::Rev;
 use std::alloc::{AllocError, Global};
 use std::marker::Model;
@@ -53,6 +52,11 @@ impl SharedNodes {
         SharedNodes { block: None, alloc }
     }
 
+    /// Returns the allocator.
+    pub(crate) fn alloc(&self) -> Global {
+        self.alloc
+    }
+
     /// Returns the nodes.
     pub(crate) fn all(&self) -> &[Node]
         ensures items { result.now ≡ self.now.items }
@@ -71,6 +75,14 @@ impl SharedNodes {
         ensures linked { IsLinked self.now.items }
     {
         &self.all()[place]
+    }
+
+    /// Returns the revision of the node at an index, if there is one.
+    pub(crate) fn rev_at(&self, place: usize) -> Option<Rev>
+        ensures { result ≡ slice_get (revs_in self.now.items) place }
+    {
+        let node = self.all().get(place)?;
+        Some(node.to_rev())
     }
 
     /// Returns the node of a revision.
@@ -178,21 +190,24 @@ impl SharedNodes {
         best: usize,
         revs: &[Rev],
         content: Content,
-        origin: Origin,
     ) -> Result<usize, AllocError>
         requires led { IsLed self.old.items best }
         requires ancestry { IsAncestry revs.now }
         requires none { first_contradiction (tree_of self.old.items).parents (edges_of revs.now) ≡ None }
-        ensures tree { OnOk result (tree_of self.new.items ≡ merged (tree_of self.old.items) revs.now content origin) }
+        ensures tree { OnOk result (tree_of self.new.items ≡ merged (tree_of self.old.items) revs.now content no_origin) }
         ensures best { IfOk result (λ b. slice_get (revs_in self.new.items) b ≡ first_of (leaves (tree_of self.new.items))) }
+        ensures kept { (i : ℕ) (r : RevId)
+            → slice_get (revs_in self.old.items) i ≡ Some r
+            → slice_get (revs_in self.new.items) i ≡ Some r }
+        ensures len { length self.new.items ≤ length self.old.items + length revs.now }
         ensures err { OnErr result (self.new.items ≡ self.old.items) }
     {
         let alloc = self.alloc;
         match &mut self.block {
-            Some(shared) => insert_shared(alloc, shared, best, revs, content, origin),
+            Some(shared) => insert_shared(alloc, shared, best, revs, content),
             None => {
                 let mut nodes = Nodes::new(alloc);
-                let best = nodes.insert(best, revs, content, origin)?;
+                let best = nodes.insert(best, revs, content)?;
                 self.block = Some(Arc::new(alloc, nodes)?);
                 Ok(best)
             }
@@ -208,22 +223,25 @@ fn insert_shared(
     best: usize,
     revs: &[Rev],
     content: Content,
-    origin: Origin,
 ) -> Result<usize, AllocError>
     requires led { IsLed (arc_value shared.old).items best }
     requires ancestry { IsAncestry revs.now }
     requires none { first_contradiction (tree_of (arc_value shared.old).items).parents (edges_of revs.now) ≡ None }
     ensures tree { OnOk result (tree_of (arc_value shared.new).items
-        ≡ merged (tree_of (arc_value shared.old).items) revs.now content origin) }
+        ≡ merged (tree_of (arc_value shared.old).items) revs.now content no_origin) }
     ensures best { IfOk result (λ b. slice_get (revs_in (arc_value shared.new).items) b
         ≡ first_of (leaves (tree_of (arc_value shared.new).items))) }
+    ensures kept { (i : ℕ) (r : RevId)
+        → slice_get (revs_in (arc_value shared.old).items) i ≡ Some r
+        → slice_get (revs_in (arc_value shared.new).items) i ≡ Some r }
+    ensures len { length (arc_value shared.new).items ≤ length (arc_value shared.old).items + length revs.now }
     ensures err { OnErr result ((arc_value shared.new).items ≡ (arc_value shared.old).items) }
 {
     match Arc::get_mut(shared) {
-        Some(nodes) => nodes.insert(best, revs, content, origin),
+        Some(nodes) => nodes.insert(best, revs, content),
         None => {
             let mut nodes = shared.copy(alloc)?;
-            let best = nodes.insert(best, revs, content, origin)?;
+            let best = nodes.insert(best, revs, content)?;
             *shared = Arc::new(alloc, nodes)?;
             Ok(best)
         }

@@ -6,6 +6,7 @@ use crate::content::Content;
 use crate::fault::{Contradiction, Merged, TreeFault};
 use crate::leaf::Leaf;
 use crate::origin::Origin;
+use crate::origins::Origins;
 use crate::revs::Revs;
 use crate::shared_nodes::SharedNodes;
 use crate::winner::is_deleted;
@@ -22,10 +23,11 @@ pub struct RevInfo<'a> {
 
 /// The revisions of a document with their parents, contents and origins.
 ///
-/// Each revision is stored as a node, which has the index of the parent's node. The tree stores the index of the
-/// winner's node.
+/// Each revision is stored as a node, which has the index of the parent's node. The tree stores the origins of the
+/// nodes, and the index of the winner's node.
 pub struct Tree {
     nodes: SharedNodes,
+    origins: Origins,
     best: usize,
 }
 
@@ -33,7 +35,11 @@ pub struct Tree {
 // type (docs/DECISIONS.md, "Letting values go").
 impl Drop for Tree {
     fn drop(self) {
-        let Tree { nodes: _, best: _ } = self;
+        let Tree {
+            nodes: _,
+            origins: _,
+            best: _,
+        } = self;
     }
 }
 
@@ -44,11 +50,11 @@ impl Model for Tree {
 
     ghost coded = { coded_tree };
 
-    ghost use Rattle.rev_tree.specs.Nodes.{IsLed, tree_of};
+    ghost use Rattle.rev_tree.specs.Origins.{IsStored, shown};
 
-    ghost view = { λ t. tree_of t.nodes.items };
+    ghost view = { λ t. shown t.nodes.items t.origins };
 
-    ghost invariant = { λ t. IsLed t.nodes.items t.best };
+    ghost invariant = { λ t. IsStored t.nodes.items t.origins t.best };
 }
 
 impl Tree {
@@ -62,6 +68,7 @@ impl Tree {
     {
         Tree {
             nodes: SharedNodes::new(alloc),
+            origins: Origins::all(Origin::Local(0)),
             best: 0,
         }
     }
@@ -95,8 +102,8 @@ impl Tree {
     pub fn origin(&self, rev: Rev) -> Option<Origin>
         ensures { result ≡ get self.now.origins rev }
     {
-        let node = self.nodes.node_in(&rev)?;
-        Some(node.origin())
+        let place = self.nodes.place_in(&rev)?;
+        Some(self.origins.at(place))
     }
 
     /// Whether a revision is a leaf.
@@ -173,8 +180,7 @@ impl Tree {
     pub fn winner(&self) -> Option<Rev>
         ensures { result ≡ first_of (leaves self.now) }
     {
-        let node = self.nodes.all().get(self.best)?;
-        Some(node.to_rev())
+        self.nodes.rev_at(self.best)
     }
 
     /// Returns the leaves, winner first. The call does not allocate if the tree has only one leaf.
@@ -289,8 +295,10 @@ impl Tree {
         ensures tree { IsTree self.now }
     {
         let nodes = self.nodes.share()?;
+        let origins = self.origins.copy(alloc)?;
         Ok(Tree {
             nodes,
+            origins,
             best: self.best,
         })
     }
@@ -374,9 +382,13 @@ impl Tree {
         ensures err { OnErr result (self.new ≡ self.old) }
         ensures tree { IsTree self.new }
     {
-        let best = self
-            .nodes
-            .insert(self.best, ancestry.revs(), content, origin)?;
+        let revs = ancestry.revs();
+        let known = self.nodes.all().len();
+        self.origins
+            .reserve(self.nodes.alloc(), known, revs.len(), origin)?;
+        let best = self.nodes.insert(self.best, revs, content)?;
+        let count = self.nodes.all().len() - known;
+        self.origins.extend(known, count, origin);
         self.best = best;
         Ok(())
     }

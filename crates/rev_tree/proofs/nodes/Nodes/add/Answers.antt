@@ -8,9 +8,10 @@ returns-in-Some-clause-gained c =
     let items = c.args.self.now.items in
     let f = place_known items c.args.rev.now c.in-Some.place (sym c.place_near.ensures.place ∙ c.in-Some.is) in
     record {
-      tree = tree_known items c.args.rev.now c.args.origin f.node c.place_near.ensures.linked f.found;
+      tree = tree_known items c.args.rev.now f.node c.place_near.ensures.linked f.found;
       at = rev_at_place items c.in-Some.place f.node f.at ∙ ap Some f.rev;
       kept = λ i r h. h;
+      len = omega arith;
       room = λ n h. room_for c.args.self.now (unless_among (revs_in items) c.args.rev.now + n) n (omega arith) h;
     }
 

@@ -30,7 +30,7 @@ loop-i-init c =
     let r = c.index-revs-0.result in
     record {
       put =
-          put_start c.args.self.now c.push-child.new.self c.give.new.self c.args.origin c.args.revs.now c.args.content c.push-child.result c.index-revs-0.result c.requires.ancestry.nonempty c.index-revs-0.is c.requires.room c.push-child.ensures.gained
+          put_start c.args.self.now c.push-child.new.self c.give.new.self c.args.revs.now c.args.content c.push-child.result c.index-revs-0.result c.requires.ancestry.nonempty c.index-revs-0.is c.requires.room c.push-child.ensures.gained
           (c.give.ensures.tree c.index-revs-0.result c.push-child.ensures.gained.at) c.give.ensures.revs c.give.ensures.room;
       revs =
           c.give.ensures.revs ∙ c.push-child.ensures.revs ∙ ap (λ l. l ++ r ∷ []) (ap revs_in c.requires.none ∙ none_taken revs)
@@ -57,7 +57,7 @@ link-requires-clause-parent_within c = standing c.push-parent.new.self c.push-pa
 pub link-requires-clause-child_within : goal.link-requires-clause-child_within
 link-requires-clause-child_within c =
     let low : c.loop-i.i - 1 < length c.args.revs.now = omega arith in
-    standing c.push-parent.new.self c.loop-i.child _ (c.push-parent.ensures.gained.kept c.loop-i.child _ (child_at _ c.loop-i.self c.args.origin c.args.revs.now c.args.content c.loop-i.i c.loop-i.child c.loop-i.invariant.put (omega arith) c.index-revs-i.result low))
+    standing c.push-parent.new.self c.loop-i.child _ (c.push-parent.ensures.gained.kept c.loop-i.child _ (child_at _ c.loop-i.self c.args.revs.now c.args.content c.loop-i.i c.loop-i.child c.loop-i.invariant.put (omega arith) c.index-revs-i.result low))
 
 pub loop-i-preserved : goal.loop-i-preserved
 loop-i-preserved c =
@@ -66,7 +66,7 @@ loop-i-preserved c =
     let r = c.index-revs-i.result in
     record {
       put =
-          put_next (tree_of c.args.self.now.items) c.loop-i.self c.args.origin c.args.revs.now c.args.content c.loop-i.i c.loop-i.child c.loop-i.invariant.put (omega arith) c.index-revs-i.result c.push-parent.new.self c.link.new.self c.push-parent.result c.loop-i-test.true c.index-revs-i.is c.push-parent.ensures.gained
+          put_next (tree_of c.args.self.now.items) c.loop-i.self c.args.revs.now c.args.content c.loop-i.i c.loop-i.child c.loop-i.invariant.put (omega arith) c.index-revs-i.result c.push-parent.new.self c.link.new.self c.push-parent.result c.loop-i-test.true c.index-revs-i.is c.push-parent.ensures.gained
           c.link.ensures.tree c.link.ensures.revs c.link.ensures.room;
       revs =
           c.link.ensures.revs ∙ c.push-parent.ensures.revs ∙ ap (λ l. l ++ r ∷ []) c.loop-i.invariant.revs
@@ -75,7 +75,7 @@ loop-i-preserved c =
     }
 
 pub returns-clause-tree : goal.returns-clause-tree
-returns-clause-tree c = put_end (tree_of c.args.self.now.items) c.loop-i.self c.args.origin c.args.revs.now c.args.content c.loop-i.i c.loop-i.child c.loop-i.invariant.put c.loop-i-test.false
+returns-clause-tree c = put_end (tree_of c.args.self.now.items) c.loop-i.self c.args.revs.now c.args.content c.loop-i.i c.loop-i.child c.loop-i.invariant.put c.loop-i-test.false
 
 pub returns-clause-revs : goal.returns-clause-revs
 returns-clause-revs c = c.loop-i.invariant.revs ∙ take_all _ _ c.loop-i-test.false

@@ -1,7 +1,7 @@
 use Rattle.proof_prelude.proofs.{◌≡◌, ◌<◌, ◌++◌, ◌∷◌, [], Option, Some, None, is_some, refl, cond, not, length, take, get_or, filter, sym, ap, ◌∙◌, subst, option_copied, option_to_list, Bor, take_all, append-nil}
 use Rattle.rev_core.specs.{RevId}
 use Rattle.rev_tree.specs.{is_leaf, revs_in}
-use Rattle.rev_tree.proofs.{leaf_item, leaves_pushed, none_there, second_leaf, lone_leaf}
+use Rattle.rev_tree.proofs.{shows, leaf_item, leaves_pushed, none_there, second_leaf, lone_leaf}
 use Rattle.rev_tree.proofs.tree.Tree.only_leaf.Goals as goal
 use Rattle.rev_tree.proofs.tree.Tree.only_leaf.Goals.{then-not-has_child+else-is_some, else-not-has_child}
 
@@ -17,8 +17,8 @@ returns-then-is_some c =
     let i = c.loop-node.node-index in
     let n = c.node-item.result in
     let same = c.all-node-items.ensures.items in
-    let leaf = leaf_item nodes items t c.all-node-items.ensures.linked c.self.view_is same i n c.loop-node-test.true c.node-item.is in
-    second_leaf nodes t c.all-node-items.ensures.linked c.self.view_is i n (option_copied c.loop-node.found)
+    let leaf = leaf_item nodes items t c.all-node-items.ensures.linked (shows c.self.inside.nodes.items c.self.inside.origins c.args.self.now c.all-node-items.ensures.linked c.self.view_is) same i n c.loop-node-test.true c.node-item.is in
+    second_leaf nodes t c.all-node-items.ensures.linked (shows c.self.inside.nodes.items c.self.inside.origins c.args.self.now c.all-node-items.ensures.linked c.self.view_is) i n (option_copied c.loop-node.found)
     (subst (λ l. i < length l) same c.loop-node-test.true)
     (subst (λ l. n ≡ get_or l i n) same c.node-item.is)
     (subst (λ l. filter (is_leaf t) (revs_in (take i l)) ≡ option_to_list (option_copied c.loop-node.found)) same c.loop-node.invariant)
@@ -32,7 +32,7 @@ loop-node-preserved c =
     let i = c.loop-node.node-index in
     let n = c.node-item.result in
     let before = filter (is_leaf t) (revs_in (take i items)) in
-    let leaf = leaf_item c.self.inside.nodes.items items t c.all-node-items.ensures.linked c.self.view_is c.all-node-items.ensures.items i n c.loop-node-test.true c.node-item.is in
+    let leaf = leaf_item c.self.inside.nodes.items items t c.all-node-items.ensures.linked (shows c.self.inside.nodes.items c.self.inside.origins c.args.self.now c.all-node-items.ensures.linked c.self.view_is) c.all-node-items.ensures.items i n c.loop-node-test.true c.node-item.is in
     let more = leaves_pushed t items i n c.loop-node-test.true c.node-item.is in
     elim c.if-not-has_child.branch [
       | then-not-has_child+else-is_some w ↦
@@ -47,5 +47,5 @@ loop-node-preserved c =
 pub returns : goal.returns
 returns c =
     let t = c.args.self.now in
-    lone_leaf c.self.inside.nodes.items t c.all-node-items.ensures.linked c.self.view_is (option_copied c.loop-node.found)
+    lone_leaf c.self.inside.nodes.items t c.all-node-items.ensures.linked (shows c.self.inside.nodes.items c.self.inside.origins c.args.self.now c.all-node-items.ensures.linked c.self.view_is) (option_copied c.loop-node.found)
     (sym (ap (λ l. filter (is_leaf t) (revs_in l)) (take_all _ _ c.loop-node-test.false ∙ c.all-node-items.ensures.items)) ∙ c.loop-node.invariant)

@@ -1,6 +1,6 @@
 use Rattle.proof_prelude.proofs.{◌≡◌, ◌++◌, ◌∷◌, [], take, filter, map, cond, not, IfOk, sym, ap, ◌∙◌, subst, rules, map-append, always_returns_same, ranks_by, is_lt, take_all, append-nil}
 use Rattle.rev_tree.specs.{is_leaf, Leaf, revs_in}
-use Rattle.rev_tree.proofs.{leaf_item, deleted_item, leaves_pushed, leaves_of_nodes, count_once, told_deleted, pair_cmp, pair_cmp_total, told, leaves_in_order}
+use Rattle.rev_tree.proofs.{shows, leaf_item, deleted_item, leaves_pushed, leaves_of_nodes, count_once, told_deleted, pair_cmp, pair_cmp_total, told, leaves_in_order}
 use Rattle.rev_tree.proofs.tree.Tree.sorted_leaves.Goals as goal
 use Rattle.rev_tree.proofs.tree.Tree.sorted_leaves.Goals.{then-not-has_child+in_ok-push, else-not-has_child}
 
@@ -11,8 +11,8 @@ loop-node-preserved c =
     let i = c.loop-node.node-index in
     let n = c.node-item.result in
     let before = filter (is_leaf t) (revs_in (take i items)) in
-    let leaf = leaf_item c.self.inside.nodes.items items t c.all-node-items.ensures.linked c.self.view_is c.all-node-items.ensures.items i n c.loop-node-test.true c.node-item.is in
-    let deletes = deleted_item c.self.inside.nodes.items items t c.all-node-items.ensures.linked c.self.view_is c.all-node-items.ensures.items i n c.loop-node-test.true c.node-item.is in
+    let leaf = leaf_item c.self.inside.nodes.items items t c.all-node-items.ensures.linked (shows c.self.inside.nodes.items c.self.inside.origins c.args.self.now c.all-node-items.ensures.linked c.self.view_is) c.all-node-items.ensures.items i n c.loop-node-test.true c.node-item.is in
+    let deletes = deleted_item c.self.inside.nodes.items items t c.all-node-items.ensures.linked (shows c.self.inside.nodes.items c.self.inside.origins c.args.self.now c.all-node-items.ensures.linked c.self.view_is) c.all-node-items.ensures.items i n c.loop-node-test.true c.node-item.is in
     let more = leaves_pushed t items i n c.loop-node-test.true c.node-item.is in
     elim c.if-not-has_child.branch [
       | then-not-has_child+in_ok-push w ↦
@@ -38,5 +38,5 @@ returns c =
     leaves_in_order t revs c.loop-node.found.items c.sort_unstable_by.new.self.items (count_once t (revs_in nodes) c.all-node-items.ensures.linked.once)
     found c.sort_unstable_by.ensures.permutation
     (c.sort_unstable_by.ensures.sorted (λ x y. is_lt (pair_cmp (told x) (told y))) (ranks_by pair_cmp_total told) (always_returns_same _ _ _ (λ a r q k. search rules)))
-    ∙ leaves_of_nodes nodes t c.all-node-items.ensures.linked c.self.view_is in
+    ∙ leaves_of_nodes nodes t c.all-node-items.ensures.linked (shows c.self.inside.nodes.items c.self.inside.origins c.args.self.now c.all-node-items.ensures.linked c.self.view_is) in
     subst (λ l. IfOk c.revs_of.result (λ v. v.items ≡ l)) (ap (map (λ (l : Leaf). l.rev.now)) c.deref.ensures.value ∙ sorted) c.revs_of.ensures
