@@ -17,7 +17,7 @@ find_mapped f q (e ∷ es) =
       | false ↦ find_mapped f q es
     ]
 
-get-labelled : (nodes : List NodeValue) (os : OriginsValue) (q : RevId) → get (shown nodes os).origins q ≡ option_map (origin_at os) (place_of nodes q)
+pub get-labelled : (nodes : List NodeValue) (os : OriginsValue) (q : RevId) → get (shown nodes os).origins q ≡ option_map (origin_at os) (place_of nodes q)
 get-labelled nodes os q = get-from_entries rev_cmp_total (labelled os nodes) q ∙ find_mapped (origin_at os) q (places_from 0 (revs_in nodes))
 
 is_some-map : {A B : Type 0} (f : A → B) (o : Option A) → is_some (option_map f o) ≡ is_some o
@@ -118,10 +118,10 @@ place_of_rev nodes linked i q h =
     let same = same_Some n.0.rev q (sym (rev_at_place nodes i n.0 n.1) ∙ h) in
     place_at nodes linked.once i n.0 q n.1 (ap (eq_by_cmp rev_cmp q) same ∙ rev_tie_self q)
 
-has-place : (nodes : List NodeValue) → IsLinked nodes → (q : RevId) → has (tree_of nodes) q ≡ is_some (place_of nodes q)
+pub has-place : (nodes : List NodeValue) → IsLinked nodes → (q : RevId) → has (tree_of nodes) q ≡ is_some (place_of nodes q)
 has-place nodes linked q = has-tree_of nodes linked.once q ∙ sym (place_none nodes q 0)
 
-find_same : (q : RevId) (o : Origin) (revs : List RevId) → find rev_cmp q (map (λ r. (r, o)) revs) ≡ cond (is_among q revs) (Some o) None
+pub find_same : (q : RevId) (o : Origin) (revs : List RevId) → find rev_cmp q (map (λ r. (r, o)) revs) ≡ cond (is_among q revs) (Some o) None
 find_same q o [] = refl
 find_same q o (r ∷ revs) =
     elim (eq_by_cmp rev_cmp q r) as (λ c. cond c (Some o) (find rev_cmp q (map (λ r. (r, o)) revs)) ≡ cond (c || is_among q revs) (Some o) None) [

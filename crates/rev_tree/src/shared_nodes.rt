@@ -1,12 +1,13 @@
 //! Nodes that trees share until one of the trees changes.
-ghost use Rattle.std.specs.Prelude.{◌≡◌, ℕ, ◌+◌, ◌<◌, ◌≤◌, [], Some, None, IfOk, IfErr, OnErr, OnOk, true, filter, length, slice_get};
+ghost use Rattle.std.specs.Prelude.{◌≡◌, ℕ, ◌+◌, ◌<◌, ◌≤◌, [], Some, None, IfOk, IfErr, OnErr, OnOk, true, is_some, filter, length, slice_get};
 ghost use Rattle.std.specs.Arc.{arc_value};
+ghost use Rattle.std.specs.FinMap.{get};
 ghost use Rattle.std.specs.List.{list_all};
 ghost use Rattle.std.specs.Option.{option_copied};
 ghost use Rattle.rev_core.specs.Rev.{RevId};
 ghost use Rattle.rev_core.specs.Ancestry.{IsAncestry, edges_of, is_among};
 ghost use Rattle.rev_tree.specs.InOrder.{first_of};
-ghost use Rattle.rev_tree.specs.Tree.{IsTree, first_contradiction, has, has_edge, leaves, merged};
+ghost use Rattle.rev_tree.specs.Tree.{IsTree, first_contradiction, has, has_edge, is_leaf, leaves, merged};
 ghost use Rattle.rev_tree.specs.Nodes.{IsLed, IsLinked, no_origin, node_of, place_of, revs_in, tree_of};
 ghost use Rattle.rev_tree.specs.Walks.{ancestors_at, is_above_one};
 
@@ -166,6 +167,20 @@ impl SharedNodes {
             Some(nodes) => nodes.knows_edges(revs),
             None => Nodes::new(self.alloc).knows_edges(revs),
         }
+    }
+
+    /// Whether no node that has a child has a content.
+    pub(crate) fn only_leaves_have_contents(&self) -> bool
+        ensures only { result ≡ true → (r : RevId)
+            → is_some (get (tree_of self.now.items).contents r) ≡ true
+            → is_leaf (tree_of self.now.items) r ≡ true }
+    {
+        for node in self.all() {
+            if node.has_child() && node.content().is_some() {
+                return false;
+            }
+        }
+        true
     }
 
     /// Returns the same nodes in the same heap block, which then has one more owner.

@@ -1,6 +1,9 @@
 //! Revision trees.
-ghost use Rattle.std.specs.Prelude.{◌≡◌, ◌∷◌, [], Ok, OnOk, OnErr, IfOk, MatchOption, length, map, slice_get, true, false};
+ghost use Rattle.std.specs.Prelude.{◌≡◌, ◌∷◌, [], List, Some, Ok, OnOk, OnErr, IfOk, IfSome, MatchOption, length, map, slice_get, true, false};
 ghost use Rattle.std.specs.Option.{option_copied};
+ghost use Rattle.rev_core.specs.Rev.{RevId};
+ghost use Rattle.rev_tree.specs.Content.{ContentValue};
+ghost use Rattle.rev_tree.specs.declared.origin.Origin.{Origin};
 
 use crate::content::Content;
 use crate::fault::{Contradiction, Merged, TreeFault};
@@ -301,6 +304,38 @@ impl Tree {
             origins,
             best: self.best,
         })
+    }
+
+    /// Returns a tree with the ancestry and the content of this tree's only leaf. The returned tree shares the nodes of
+    /// this tree, and each of its revisions has the given origin. The result is `None` if this tree has several leaves,
+    /// or if a revision other than the leaf has a content.
+    pub fn share_leaf(&self, origin: Origin) -> Result<Option<Tree>, AllocError>
+        ensures { IfOk result (λ o. IfSome o (λ t. (leaf : RevId) (content : ContentValue)
+            → is_leaf self.now leaf ≡ true
+            → get self.now.contents leaf ≡ Some content
+            → t ≡ merged no_revisions (ancestors self.now leaf) content origin)) }
+    {
+        if self.only_leaf().is_none() {
+            return Ok(None);
+        }
+        if !self.nodes.only_leaves_have_contents() {
+            return Ok(None);
+        }
+        let nodes = self.nodes.share()?;
+        Ok(Some(Tree {
+            nodes,
+            origins: Origins::all(origin),
+            best: self.best,
+        }))
+    }
+
+    /// Replaces the origin of each revision.
+    pub fn set_origin(&mut self, origin: Origin)
+        ensures { (revs : List RevId) (content : ContentValue) (old : Origin)
+            → self.old ≡ merged no_revisions revs content old
+            → self.new ≡ merged no_revisions revs content origin }
+    {
+        self.origins = Origins::all(origin);
     }
 
     /// Returns the result that merging the ancestry would have, without merging and without allocating. The result is
