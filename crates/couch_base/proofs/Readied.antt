@@ -2,7 +2,6 @@
 use Rattle.proof_prelude.proofs.{◌≡◌, ℕ, zero, suc, ◌+◌, ◌<◌, List, [], ◌∷◌, ◌++◌, length, slice_get, Option, Some, None, Ok, Err, refl, sym, ap, subst, ◌∙◌, ◌⊎◌, inl, inr, nat_lt, false, same_Some, none-some}
 use Rattle.rev_tree.specs.{merged, merge_answer, no_revisions, Origin}
 use Rattle.rev_tree.specs.declared.fault.Merged.TheVariants.{Changed}
-use Rattle.rev_tree.specs.declared.origin.Origin.TheVariants.{Feed}
 use Rattle.doc_json.specs.Document.{Document}
 use Rattle.rev_core.specs.{IsAncestry}
 use Rattle.couch_base.specs.{DatabaseValue, tree_of, with_tree, most, put_answer, put_told, after_put, content_of, AreMade, IsMadeOf, PreparedTree, TableValue, database_of, found, tree_at, IsKept}
@@ -28,26 +27,22 @@ made_next docs all d m made next new i e n doc at =
           subst (λ (x : Document). IsMadeOf x n) same (subst (IsMadeOf d) (same_Some m n last.1) new)
     ]
 
-module _ (uuid life : ℕ) (t : TableValue) (db : DatabaseValue) (view : database_of uuid life t ≡ db) (kept : IsKept t) (d : Document) (a : IsAncestry d.ancestry) (m : PreparedTree) (made : IsMadeOf d m) (absent : found t.entries m.key ≡ None) where
+module _ (uuid life : ℕ) (t : TableValue) (db : DatabaseValue) (view : database_of uuid life t ≡ db) (kept : IsKept t) (d : Document) (a : IsAncestry d.ancestry) (key : Id) (named : key ≡ d.id) (absent : found t.entries key ≡ None) where
   -- the document has no tree yet
   pub no_tree : tree_of db.docs d.id ≡ no_revisions
-  no_tree = sym (λ i. tree_of (view i).docs (made.key i)) ∙ tree_of-documents_of t kept m.key ∙ ap tree_at absent
+  no_tree = sym (λ i. tree_of (view i).docs (named i)) ∙ tree_of-documents_of t kept key ∙ ap tree_at absent
 
   -- a put of the document is a change
   pub new_document : merge_answer (tree_of db.docs d.id) d.ancestry ≡ Ok Changed
   new_document = ap (λ x. merge_answer x d.ancestry) no_tree ∙ new_changes d.ancestry a
-
-  -- the put finds no sequence
-  pub full : nat_lt db.update_seq most ≡ false → put_answer db d ≡ Err faults.SeqFull
-  full none = λ i. put_told (new_document i) (none i) (db.update_seq + 1)
 
   -- the put takes a sequence
   pub taken : db.update_seq < most → put_answer db d ≡ Ok (answers.Changed (db.update_seq + 1))
   taken room = answer-changed db d new_document room
 
   -- the put stores the prepared tree
-  pub left : (o : Origin) → Feed m.session m.seq ≡ o → db.update_seq < most → with_tree db m.key m.tree ≡ after_put db d o
-  left o from room =
-      (λ i. with_tree db (made.key i) (made.tree i))
-      ∙ (λ i. with_tree db d.id (merged (sym no_tree i) d.ancestry (content_of d.deleted d.body) (from i)))
+  pub left : (tree : TreeValue) (o : Origin) → tree ≡ merged no_revisions d.ancestry (content_of d.deleted d.body) o → db.update_seq < most → with_tree db key tree ≡ after_put db d o
+  left tree o made room =
+      (λ i. with_tree db (named i) (made i))
+      ∙ (λ i. with_tree db d.id (merged (sym no_tree i) d.ancestry (content_of d.deleted d.body) o))
       ∙ sym (after_put-changed db d o (db.update_seq + 1) (taken room))

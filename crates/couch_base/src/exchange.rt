@@ -1,14 +1,17 @@
 //! Requests missing revisions, fetches documents for requests, and reads a document at a revision.
-ghost use Rattle.std.specs.Prelude.{◌≡◌, ◌++◌, [], true, map, length, OnOk, IfOk};
+ghost use Rattle.std.specs.Prelude.{◌≡◌, ◌++◌, [], true, List, map, length, OnOk, IfOk};
 ghost use Rattle.std.specs.List.{list_all};
 ghost use Rattle.rev_tree.specs.Tree.{is_leaf, missing};
 ghost use Rattle.couch_base.specs.Database.{IsDocumentTree, tree_of};
+ghost use Rattle.doc_json.specs.Document.{Document};
+ghost use Rattle.couch_base.specs.Readied.{AreMadeAll};
 ghost use Rattle.couch_base.specs.Messages.{document_in, leaf_document, opened, want_first};
 
 use crate::asked::{Asked, Wanted};
 use crate::database::Database;
 use crate::lookup_hint::LookupHint;
 use crate::parcel::Parcel;
+use crate::prepared_tree::PreparedTree;
 use crate::row::Row;
 use crate::window::Window;
 use doc_json::{Body, Doc, DocId};
@@ -52,11 +55,12 @@ impl Database {
         self.law();
         let mut docs = Vec::with_capacity(alloc, asked.docs().len())?;
         let mut gone = Vec::new(alloc);
+        let mut made = Vec::with_capacity(alloc, asked.docs().len())?;
         let mut near = LookupHint::new();
         for wanted in asked.docs() {
-            self.fetch(alloc, wanted, &mut near, &mut docs, &mut gone)?;
+            self.fetch(alloc, wanted, &mut near, &mut docs, &mut gone, &mut made)?;
         }
-        Ok(Parcel::new(alloc, asked, docs, gone))
+        Ok(Parcel::with_prepared(asked, docs, gone, made))
     }
 
     /// Returns the number of documents that `open_revs` would return.
@@ -120,8 +124,9 @@ impl Database {
         Ok(())
     }
 
-    /// Fetches the requested revisions of one document. `fetch` appends the fetched documents to `docs`. If the tree of
-    /// the requested document lacks a requested revision, `fetch` appends this revision to `gone`.
+    /// Fetches the requested revisions of one document. `fetch` appends the fetched documents to `docs`, and to `made`
+    /// the prepared trees of these documents. If the tree of the requested document lacks a requested revision, `fetch`
+    /// appends this revision to `gone`.
     fn fetch(
         &self,
         alloc: Global,
@@ -129,7 +134,10 @@ impl Database {
         near: &mut LookupHint,
         docs: &mut Vec<Doc>,
         gone: &mut Vec<(DocId, Rev)>,
+        made: &mut Vec<Option<PreparedTree>>,
     ) -> Result<(), AllocError>
+        requires made { AreMadeAll docs.old.items made.old.items }
+        ensures made { OnOk result (AreMadeAll docs.new.items made.new.items) }
         ensures docs { OnOk result (docs.new.items ≡ docs.old.items
             ++ opened wanted.now.id (tree_of self.now.docs wanted.now.id) wanted.now.revs) }
         ensures gone { OnOk result (gone.new.items ≡ gone.old.items
@@ -143,6 +151,7 @@ impl Database {
         };
         let leaves = tree.leaves_above(alloc, asked)?;
         add_documents(alloc, id, tree, &leaves, docs)?;
+        add_prepared(alloc, id, tree, &leaves, made)?;
         let unknown = tree.missing(alloc, asked)?;
         add_revs(alloc, id, &unknown, gone)?;
         Ok(())
@@ -181,6 +190,30 @@ fn add_documents(
     for leaf in leaves {
         let doc = leaf_document(alloc, id, tree, *leaf)?;
         docs.push(doc)?;
+    }
+    Ok(())
+}
+
+/// Appends the prepared trees of leaves to a list, with `None` for a leaf for which a tree must be built. The document's
+/// own tree is shared if it has no other leaf.
+fn add_prepared(
+    alloc: Global,
+    id: &DocId,
+    tree: &Tree,
+    leaves: &[Rev],
+    made: &mut Vec<Option<PreparedTree>>,
+) -> Result<(), AllocError>
+    requires document { IsDocumentTree tree.now }
+    requires leaves { list_all (is_leaf tree.now) leaves.now ≡ true }
+    ensures ok { OnOk result ((docs : List Document) → AreMadeAll docs made.old.items
+        → AreMadeAll (docs ++ map (leaf_document id.now tree.now) leaves.now) made.new.items) }
+{
+    if leaves.len() == 1 {
+        made.push(PreparedTree::shared(alloc, id, tree)?)?;
+        return Ok(());
+    }
+    for leaf in leaves {
+        made.push(None)?;
     }
     Ok(())
 }

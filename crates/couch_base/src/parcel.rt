@@ -5,10 +5,8 @@ ghost use Rattle.couch_base.specs.Readied.{AreMade};
 use crate::asked::Asked;
 use crate::copies::copied;
 use crate::prepared_tree::PreparedTree;
-use crate::row::Row;
 use doc_json::{Doc, DocId};
 use rev_core::Rev;
-use rev_tree::SessionId;
 use std::alloc::{AllocError, Global};
 use std::marker::Model;
 
@@ -74,6 +72,26 @@ impl Parcel {
         }
     }
 
+    /// Creates a parcel from parts that satisfy the invariant of parcels. The item `made[i]` is the prepared tree of
+    /// `docs[i]`, if there is one.
+    pub(crate) fn with_prepared(
+        asked: Asked,
+        docs: Vec<Doc>,
+        gone: Vec<(DocId, Rev)>,
+        made: Vec<Option<PreparedTree>>,
+    ) -> Parcel
+        requires parcel { IsParcel (record { asked = asked; docs = docs.items; gone = gone.items }) }
+        requires made { AreMade docs.items made.items }
+        ensures { result ≡ record { asked = asked; docs = docs.items; gone = gone.items } }
+    {
+        Parcel {
+            asked,
+            docs,
+            gone,
+            made,
+        }
+    }
+
     /// Returns the exclusive lower bound of the window's sequences.
     pub fn lo(&self) -> u64
         ensures value { result ≡ self.now.asked.lo }
@@ -116,7 +134,7 @@ impl Parcel {
     }
 
     /// Splits the parcel into request, documents, gone revisions and prepared trees. The prepared trees are in the
-    /// order of the documents. The list of prepared trees is empty if `prepare` was not called for the parcel.
+    /// order of the documents. The list of prepared trees may be shorter than the list of documents.
     pub fn into_parts(
         self,
     ) -> (
@@ -138,20 +156,14 @@ impl Parcel {
         (asked, docs, gone, made)
     }
 
-    /// Builds the trees that the parcel's documents would have if the documents were new at the target. The origin of
-    /// each tree is a session and the sequence of the document's row. In contracts, a parcel is a request, documents
-    /// and gone revisions, without prepared trees, so `prepare` does not change the parcel (clause `same`).
-    /// `Database::put_prepared` can store the prepared trees.
-    pub fn prepare(
-        &mut self,
-        alloc: Global,
-        session: SessionId,
-        rows: &[Row],
-    ) -> Result<(), AllocError>
+    /// Builds the trees that the parcel's documents would have if the documents were new at the target, for documents
+    /// without a prepared tree. In contracts, a parcel is a request, documents and gone revisions, without prepared
+    /// trees, so `prepare` does not change the parcel (clause `same`). `Database::put_prepared` can store the prepared
+    /// trees.
+    pub fn prepare(&mut self, alloc: Global) -> Result<(), AllocError>
         ensures same { self.new ≡ self.old }
     {
-        self.made = make_all(alloc, session, rows, &self.docs)?;
-        Ok(())
+        make_missing(alloc, &self.docs, &mut self.made)
     }
 
     /// Copies the parcel.
@@ -166,37 +178,23 @@ impl Parcel {
     }
 }
 
-/// Builds the trees that the given documents would have if the documents were new at the target. For each document,
-/// `make_all` searches the window's rows from the previous document's row on. If `make_all` does not find a document's
-/// row, it builds no tree for this document and the documents after it.
-fn make_all(
+/// Builds the trees that documents would have if they were new at the target. The item `made[i]` is the tree of
+/// `docs[i]`, if there is one, and the call builds the others.
+fn make_missing(
     alloc: Global,
-    session: SessionId,
-    rows: &[Row],
     docs: &[Doc],
-) -> Result<Vec<Option<PreparedTree>>, AllocError>
-    ensures made { IfOk result (λ made. AreMade docs.now made.items) }
+    made: &mut Vec<Option<PreparedTree>>,
+) -> Result<(), AllocError>
+    requires { AreMade docs.now made.old.items }
+    ensures { AreMade docs.now made.new.items }
 {
-    let mut all = Vec::with_capacity(alloc, docs.len())?;
-    let mut row = 0;
-    for doc in docs {
-        row = row_from(rows, doc.id(), row);
-        if row >= rows.len() {
-            return Ok(all);
+    for i in 0..docs.len() {
+        if i >= made.len() {
+            made.push(None)?;
         }
-        let made = PreparedTree::of(alloc, doc, session, rows[row].seq())?;
-        all.push(Some(made))?;
-    }
-    Ok(all)
-}
-
-/// Returns the index of the first row with the given id at or after index `from`, or the number of rows if there is no
-/// such row.
-fn row_from(rows: &[Row], id: &DocId, from: usize) -> usize {
-    for place in from..rows.len() {
-        if rows[place].id() == id {
-            return place;
+        if made[i].is_none() {
+            made[i] = Some(PreparedTree::of(alloc, &docs[i])?);
         }
     }
-    rows.len()
+    Ok(())
 }

@@ -310,10 +310,11 @@ impl Tree {
     /// this tree, and each of its revisions has the given origin. The result is `None` if this tree has several leaves,
     /// or if a revision other than the leaf has a content.
     pub fn share_leaf(&self, origin: Origin) -> Result<Option<Tree>, AllocError>
-        ensures { IfOk result (λ o. IfSome o (λ t. (leaf : RevId) (content : ContentValue)
+        ensures shared { IfOk result (λ o. IfSome o (λ t. (leaf : RevId) (content : ContentValue)
             → is_leaf self.now leaf ≡ true
             → get self.now.contents leaf ≡ Some content
             → t ≡ merged no_revisions (ancestors self.now leaf) content origin)) }
+        ensures tree { IfOk result (λ o. IfSome o (λ t. IsTree t)) }
     {
         if self.only_leaf().is_none() {
             return Ok(None);
@@ -331,9 +332,10 @@ impl Tree {
 
     /// Replaces the origin of each revision.
     pub fn set_origin(&mut self, origin: Origin)
-        ensures { (revs : List RevId) (content : ContentValue) (old : Origin)
+        ensures origin { (revs : List RevId) (content : ContentValue) (old : Origin)
             → self.old ≡ merged no_revisions revs content old
             → self.new ≡ merged no_revisions revs content origin }
+        ensures tree { IsTree self.new }
     {
         self.origins = Origins::all(origin);
     }
