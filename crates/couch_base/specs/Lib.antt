@@ -17,7 +17,7 @@ pub mod MessageLaws
 pub use Lists.{Among, EachOnce, Rises}
 pub use Database.{DatabaseValue, DocumentValue, Id, IsDocumentTree, LawfulDatabase, in_life, most, tree_in, tree_of, with_tree, without}
 pub use Put.{PutGives, after_put, content_of, is_change, is_changed, put_answer, put_told}
-pub use Readied.{AreMade, IsMadeOf}
+pub use Readied.{AreMade, AreMadeAll, IsMadeOf}
 pub use Feed.{IsWindow, RowValue, WindowValue, chosen_feed, chosen_rows, feed, last_seq, page, page_answer, page_end, row_of, window_of}
 pub use Stored.{AllBelow, AreFew, ArePlaces, AreRows, InOrder, IsKept, IsPlace, IsTable, IsWritten, Sets, TableValue, above, at_seq, database_of}
 pub use Stored.{document, documents, documents_of, feed_of, feed_without, found, id_at, is_live, live, live_upto, named, row_by, rows_within, seq_of}

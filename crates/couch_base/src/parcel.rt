@@ -1,6 +1,7 @@
 //! Fetched documents.
-ghost use Rattle.std.specs.Prelude.{◌≡◌, IfOk};
-ghost use Rattle.couch_base.specs.Readied.{AreMade};
+ghost use Rattle.std.specs.Prelude.{◌≡◌, ◌≤◌, List, IfOk, IfSome, OnOk, length};
+ghost use Rattle.doc_json.specs.Document.{Document};
+ghost use Rattle.couch_base.specs.Readied.{AreMade, IsMadeOf};
 
 use crate::asked::Asked;
 use crate::copies::copied;
@@ -188,13 +189,35 @@ fn make_missing(
     requires { AreMade docs.now made.old.items }
     ensures { AreMade docs.now made.new.items }
 {
+    pad(docs.len(), made)?;
     for i in 0..docs.len() {
-        if i >= made.len() {
-            made.push(None)?;
-        }
-        if made[i].is_none() {
-            made[i] = Some(PreparedTree::of(alloc, &docs[i])?);
-        }
+        make_if_none(alloc, &docs[i], &mut made[i])?;
+    }
+    Ok(())
+}
+
+/// Appends `None` to a list until the list has at least `count` items.
+fn pad(count: usize, made: &mut Vec<Option<PreparedTree>>) -> Result<(), AllocError>
+    ensures count { OnOk result (count ≤ length made.new.items) }
+    ensures made { (docs : List Document) → AreMade docs made.old.items → AreMade docs made.new.items }
+{
+    for i in made.len()..count {
+        made.push(None)?;
+    }
+    Ok(())
+}
+
+/// Builds the tree that a document would have if it were new at the target, unless the tree is there already.
+fn make_if_none(
+    alloc: Global,
+    doc: &Doc,
+    made: &mut Option<PreparedTree>,
+) -> Result<(), AllocError>
+    requires { IfSome made.old (IsMadeOf doc.now) }
+    ensures { IfSome made.new (IsMadeOf doc.now) }
+{
+    if made.is_none() {
+        *made = Some(PreparedTree::of(alloc, doc)?);
     }
     Ok(())
 }

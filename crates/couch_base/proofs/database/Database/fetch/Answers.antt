@@ -23,3 +23,8 @@ pub add_documents-requires-clause-leaves : goal.add_documents-requires-clause-le
 add_documents-requires-clause-leaves c =
     let t = c.in-Some.tree.now in
     ap (list_all (is_leaf t)) (c.deref.ensures ∙ c.in_ok-leaves.ensures) ∙ all_leaves t c.revs-asked.result.now
+
+pub add_prepared-requires-clause-leaves : goal.add_prepared-requires-clause-leaves
+add_prepared-requires-clause-leaves c =
+    let t = c.in-Some.tree.now in
+    ap (list_all (is_leaf t)) (c.deref-2.ensures ∙ c.in_ok-leaves.ensures) ∙ all_leaves t c.revs-asked.result.now

@@ -10,6 +10,7 @@ loop-wanted-preserved c =
     let i = c.loop-wanted.wanted-index in
     let w = c.wanted-item.result in
     record {
+      made = c.in_ok-fetch.ensures.made;
       docs =
           ap (λ l. l ++ fetched ds (drop (i + 1) ws)) c.in_ok-fetch.ensures.docs
           ∙ fetched_next ds c.loop-wanted.docs.items (fetched ds ws) ws i w c.loop-wanted-test.true c.wanted-item.is c.loop-wanted.invariant.docs;
@@ -18,8 +19,8 @@ loop-wanted-preserved c =
           ∙ gone_next ds c.loop-wanted.gone.items (gone_of ds ws) ws i w c.loop-wanted-test.true c.wanted-item.is c.loop-wanted.invariant.gone;
     }
 
-pub new-requires : goal.new-requires
-new-requires c =
+pub with_prepared-requires-clause-parcel : goal.with_prepared-requires-clause-parcel
+with_prepared-requires-clause-parcel c =
     let ds = c.args.self.now.docs in
     let ws = c.docs-wanted-items in
     let i = c.loop-wanted.wanted-index in
