@@ -187,10 +187,10 @@ fn asked_count(alloc: Global, db: &Database, asked: &Asked) -> Result<u128> {
     }
 }
 
-/// Prepares a parcel's documents for a session.
-fn prepare(alloc: Global, parcel: &mut Parcel, window: &Window) -> Result<()> {
-    match parcel.prepare(alloc, SessionId(1), window.rows()) {
-        Err(AllocError) => Ok(parcel.prepare(alloc, SessionId(1), window.rows())?),
+/// Prepares a parcel's documents.
+fn prepare(alloc: Global, parcel: &mut Parcel) -> Result<()> {
+    match parcel.prepare(alloc) {
+        Err(AllocError) => Ok(parcel.prepare(alloc)?),
         answer => Ok(answer?),
     }
 }
@@ -210,7 +210,7 @@ fn put_row(alloc: Global, db: &mut Database, docs: &[Doc], row: &Row) -> Result<
 fn arrived(alloc: Global, window: &Window, parcel: Parcel) -> Result<u64> {
     let mut db = Database::new(alloc, 9);
     let mut parcel = parcel;
-    prepare(alloc, &mut parcel, window)?;
+    prepare(alloc, &mut parcel)?;
     let (_, docs, _, _) = parcel.into_parts();
     for row in window.rows() {
         put_row(alloc, &mut db, &docs, row)?;

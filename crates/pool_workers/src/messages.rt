@@ -11,7 +11,6 @@ ghost use Rattle.pool_workers.specs.Paging.{IsNext};
 use crate::brands::SourceBrand;
 use couch_base::{Asked, Row, Window};
 use repl_target::{Peer, Plan, PreparedParcel, ReadyWindow, WriteFilter};
-use rev_tree::SessionId;
 use std::alloc::{AllocError, Global};
 use std::marker::{Model, PhantomData};
 
@@ -169,23 +168,23 @@ impl<S: SourceBrand> Found<S> {
         self.page.copy(alloc)
     }
 
-    /// Reads the documents at the source. If `session` is given, `fetch` also builds in advance the trees and arrivals
-    /// for settling the documents in this session.
+    /// Reads the documents at the source. If `prepares` is true, `fetch` also builds in advance the trees and arrivals
+    /// for settling the documents.
     pub fn fetch<F: WriteFilter>(
         self,
         alloc: Global,
         source: &Peer<F>,
-        session: Option<SessionId>,
+        prepares: bool,
     ) -> Result<Fetched<S>, AllocError>
         requires { S.source ≡ source.now.1.db }
         ensures { IfOk result (λ p. p ≡ self) }
     {
         let Found {
-            page,
+            page: _,
             asked,
             documents: _,
         } = self;
-        Fetched::<S>::fetch(alloc, source, asked, &page, session)
+        Fetched::<S>::fetch(alloc, source, asked, prepares)
     }
 }
 
@@ -209,23 +208,24 @@ impl<S: SourceBrand> Model for Fetched<S> {
 }
 
 impl<S: SourceBrand> Fetched<S> {
-    /// Reads the documents that the source returns for a request for leaves of a page. If `session` is given, `fetch`
-    /// also builds in advance the trees and arrivals for settling the documents in this session.
+    /// Reads the documents that the source returns for a request. If `prepares` is true, `fetch` also builds in advance
+    /// the trees and arrivals for settling the documents.
     pub fn fetch<F: WriteFilter>(
         alloc: Global,
         source: &Peer<F>,
         asked: Asked,
-        page: &Paged<S>,
-        session: Option<SessionId>,
+        prepares: bool,
     ) -> Result<Fetched<S>, AllocError>
         requires { S.source ≡ source.now.1.db }
         ensures { IfOk result (λ p. p ≡ open_revs source.now.1.db asked) }
     {
-        if session.is_some() {
+        if prepares {
             grow_heap(alloc);
         }
         let mut ready = PreparedParcel::new(alloc, source.open_asked(alloc, asked)?);
-        prepare(alloc, &mut ready, session, page.window())?;
+        if prepares {
+            ready.prepare(alloc)?;
+        }
         Ok(Fetched {
             ready,
             of: PhantomData,
@@ -245,21 +245,6 @@ impl<S: SourceBrand> Fetched<S> {
         ensures answer { IsAnswerOf S.source self }
     {
         self.ready
-    }
-}
-
-/// Prepares the documents of a parcel for a session, if a session is given.
-fn prepare(
-    alloc: Global,
-    ready: &mut PreparedParcel,
-    session: Option<SessionId>,
-    window: &Window,
-) -> Result<(), AllocError>
-    ensures { ready.new ≡ ready.old }
-{
-    match session {
-        Some(session) => ready.prepare(alloc, session, window.rows()),
-        None => Ok(()),
     }
 }
 

@@ -139,15 +139,10 @@ impl<F: WriteFilter, S: SourceBrand, T: TargetBrand<F>, L: Ledger, G: Gate, R: W
         pass(self.rt, self.gate, Place::Recorded(number, recorded))
     }
 
-    /// Returns the session for which a parcel is prepared before the lock is taken. Returns `None` if the run has only
-    /// one writer, because no other writer waits for the lock. If the thread that builds data also stores the data, the
-    /// data stays in the processor's cache.
-    fn session_ahead(&self) -> Option<SessionId> {
-        if self.workers > 1 {
-            Some(self.plan.session)
-        } else {
-            None
-        }
+    /// Whether a parcel is prepared before the lock is taken. If the run has only one writer, no other writer waits for
+    /// the lock. If the thread that builds data also stores the data, the data stays in the processor's cache.
+    fn prepares(&self) -> bool {
+        self.workers > 1
     }
 
     /// Reads a parcel at the source. If the run has several writers, the call prepares the parcel's documents for
@@ -172,7 +167,7 @@ impl<F: WriteFilter, S: SourceBrand, T: TargetBrand<F>, L: Ledger, G: Gate, R: W
     {
         // The page must live until the lock is released, so that its rows are not dropped while the lock is held.
         let page = found.page(self.alloc)?;
-        let fetched = found.fetch(self.alloc, self.source, self.session_ahead())?;
+        let fetched = found.fetch(self.alloc, self.source, self.prepares())?;
         let settled = self.settle_and_record(share, seat, number, fetched);
         drop(page);
         settled

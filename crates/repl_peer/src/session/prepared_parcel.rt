@@ -5,10 +5,9 @@ ghost use Rattle.repl_peer.specs.peer.Peer.{written_of};
 ghost use Rattle.repl_peer.specs.session.Arriving.{AreArrivalsOf};
 
 use crate::peer::written::Written;
-use couch_base::{Asked, Parcel, PreparedTree, Row};
+use couch_base::{Asked, Parcel, PreparedTree};
 use doc_json::{Doc, DocId};
 use rev_core::Rev;
-use rev_tree::SessionId;
 use std::alloc::{AllocError, Global};
 use std::marker::Model;
 
@@ -53,19 +52,13 @@ impl PreparedParcel {
         }
     }
 
-    /// Builds the arrivals of a parcel's documents, and the trees that these documents would have as new documents. The
-    /// origin of each tree is a session and the sequence of the document's row. For contracts, the prepared parcel
-    /// keeps its value when arrivals and trees are built.
-    pub fn prepare(
-        &mut self,
-        alloc: Global,
-        session: SessionId,
-        rows: &[Row],
-    ) -> Result<(), AllocError>
+    /// Builds the arrivals of a parcel's documents, and the trees that these documents would have as new documents. For
+    /// contracts, the prepared parcel keeps its value when arrivals and trees are built.
+    pub fn prepare(&mut self, alloc: Global) -> Result<(), AllocError>
         ensures same { self.new ≡ self.old }
     {
         let arrivals = arrivals_of(alloc, self.parcel.docs())?;
-        self.parcel.prepare(alloc, session, rows)?;
+        self.parcel.prepare(alloc)?;
         self.arrivals = arrivals;
         Ok(())
     }
