@@ -1,12 +1,25 @@
-use Rattle.proof_prelude.proofs.{refl, sym, ap, subst, ◌∙◌}
-use Rattle.couch_base.specs.{put_answer}
+use Rattle.proof_prelude.proofs.{◌≡◌, ◌⊎◌, Result, Err, inl, inr, refl, sym, ap, subst, ◌∙◌}
+use Rattle.doc_json.specs.Document.{Document}
+use Rattle.couch_base.specs.{BaseFault, PutGives, put_answer}
+use Rattle.couch_base.specs.declared.fault.BaseFault.TheVariants as base
+use Rattle.couch_base.specs.declared.fault.Put.{Put}
 use Rattle.repl_peer.specs.{PeerValue, new_peer, after_load}
+use Rattle.repl_peer.proofs.{load_later}
 use Rattle.script_engine.specs.{in_full, gave_up, served_only}
 use Rattle.script_databases.specs.{IsTaken, with_peer, told_as, base_refusal}
-use Rattle.script_databases.proofs.{load_keeps, put_refused}
+use Rattle.script_databases.specs.declared.refusal.Refusal.TheVariants as why
 use Rattle.write_commands.specs.{put_line}
 use Rattle.command_api.proofs.{passes, stops, does, does_nothing, both, gave_up_at, printed, unless_memory, handed_on, refused_memory}
 use Rattle.write_commands.proofs.load.make_with.Goals as goal
+
+-- a failed put gives its error, or runs out of memory
+put_refused : (fault : BaseFault) (expected : Result Put BaseFault) → PutGives (Err fault) expected → (told_as base_refusal expected ≡ Err (base_refusal fault)) ⊎ (base_refusal fault ≡ why.Memory)
+put_refused base.Memory expected h = inr refl
+put_refused fault expected h = inl (ap (told_as base_refusal) (sym h))
+
+-- a load keeps the UUID
+load_keeps : (d : Document) (l : PeerValue) → (after_load l d).db.uuid ≡ l.db.uuid
+load_keeps d l = (load_later l d).db.uuid
 
 pub returns-in_err-peer : goal.returns-in_err-peer
 returns-in_err-peer c = refused_memory c.from_residual.result _ c.from_residual.ensures.1 gave_up
