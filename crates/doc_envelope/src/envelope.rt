@@ -84,8 +84,8 @@ impl Envelope {
         is_envelope(self.alloc, self.text.as_slice(), scratch)
     }
 
-    /// Unwraps a document. Returns `false` if the text is not a JSON object, or if the value of the object's member
-    /// `whole` is not a string of JSON members.
+    /// Unwraps a document. Returns `false` if the text is not a JSON object, or if the object's member `whole` is not a
+    /// string of JSON members.
     pub fn take(&mut self, document: &[u8]) -> Result<bool, AllocError>
         ensures text { IfOk result (λ ok. unfolded document.now ≡ cond ok (Some (made_of self.new)) None) }
         ensures gives_back { (fs ws os : List (List ℕ)) → HasMembers document.now (fs ++ ws) → AreOthers fs

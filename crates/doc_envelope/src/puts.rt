@@ -13,8 +13,8 @@ use std::alloc::AllocError;
 impl Envelope {
     /// Converts the beginning of a document to the beginning of the document's envelope. Returns true only if
     /// `beginning` ends inside a string whose further bytes may be passed on without being stored. If the call returns
-    /// true, and all later members of the document go into the string of `whole`, the document's envelope begins with
-    /// the built text (`Envelope::text`).
+    /// true, the document's envelope begins with the built text (`Envelope::text`), provided that all later members go
+    /// into the string of `whole`.
     pub fn begin_put(&mut self, beginning: &[u8]) -> Result<bool, AllocError>
         ensures { IfOk result (λ ok. ok ≡ true → IsPutStart beginning.now (made_of self.new)) }
     {

@@ -63,8 +63,8 @@ fn read_more(alloc: Global, line: &[u8]) -> Result<Told, AllocError>
     }
 }
 
-/// Parses a line that pictures do not show. Returns `Other` if the line has a form that `couch_replicate` prints, and
-/// otherwise `Unknown`.
+/// Parses a line that pictures do not show. Returns `Other` if the line begins like a line that `couch_replicate`
+/// prints, and otherwise `Unknown`.
 fn other_of(line: &[u8]) -> Told
     ensures { result ≡ other_of line.now }
 {

@@ -23,7 +23,7 @@ pub enum Told {
     Row(Row),
     /// A log.
     Log(Log),
-    /// A line that `couch_replicate` prints, but that pictures do not show.
+    /// A line that pictures do not show, but that begins like output of `couch_replicate`.
     Other,
     /// A line that `couch_replicate` does not print.
     Unknown,

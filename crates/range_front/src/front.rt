@@ -158,8 +158,8 @@ impl Front {
         is_window(self.start, &self.ends, lo, hi) && is_covered(self.mark, &self.ranges, hi)
     }
 
-    /// Returns the low water (docs/PROFILE.md, "Windows and low water"). The low water is the highest sequence up to
-    /// which every window is done. If the first window is not done, the low water is the front's start.
+    /// Returns the low water (docs/PROFILE.md, "Windows and low water"). The low water is the end of the longest
+    /// prefix of done windows, or the front's start if this prefix is empty.
     pub fn low_water(&self) -> u64
         ensures value { result ≡ low_water self.now.front }
         ensures front { IsFront self.now.front }

@@ -107,9 +107,9 @@ fn start_of(
     }
 }
 
-/// Begins a window (a range of the source's changes) at the sequence of the newest entry that both logs have. If the
-/// logs have no common entry, the window begins at sequence 0. If the logs have no common entry, the run stores a
-/// checkpoint at sequence 0 in both logs before it requests changes.
+/// Begins a window (a range of the source's changes) at the sequence of the newest entry that both logs have. An entry
+/// is common if both logs have its session id with its sequence. If the logs have no common entry, the window begins at
+/// sequence 0, and the run stores a checkpoint at sequence 0 in both logs before it requests changes.
 fn begin_window(
     alloc: Global,
     run: Run,

@@ -59,7 +59,7 @@ fn is_telling(notices: &Vec<Notice>, told: usize) -> bool
 /// argument `date` is the response's date, or empty if the response has no date.
 ///
 /// The contract says: if `phase` is consistent with all earlier exchanges (requests and responses), the returned phase
-/// is consistent with these and with the new exchange.
+/// is consistent with these and the new exchange.
 pub fn step(
     alloc: Global,
     settings: &Settings,

@@ -348,9 +348,9 @@ impl<F: WriteFilter> Peer<F> {
 
     /// Settles a parcel of a session: applies the parcel's documents in order, then marks the parcel's window as done.
     ///
-    /// A document counts as written if the tree already had the document's revision. If the filter refuses a document,
-    /// or if the document contradicts the tree, the document goes into the session's ledger. Returns the number of
-    /// stored documents and the number of documents that went into the ledger.
+    /// If the filter refuses a document, or if the document contradicts the tree, the document goes into the session's
+    /// ledger. Any other document counts as written, even if the tree already had the document. Returns the number of
+    /// written documents and the number of documents that went into the ledger.
     ///
     /// # Errors
     ///

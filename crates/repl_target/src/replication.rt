@@ -70,8 +70,8 @@ impl Plan {
 /// source's log.
 ///
 /// If the call succeeds, the target covers each leaf of the source's selected feed above the start, and the report is
-/// the session's report. If the target is empty and refuses no document, each selected document has the same revisions,
-/// parents and contents of leaves in both peers after a successful call. The source's database never changes.
+/// the session's report. A successful call into an empty target, without refused documents, gives each selected
+/// document the same revisions, parents and leaf contents at both peers. The source's database never changes.
 ///
 /// If the source and the target are consistent (docs/PROFILE.md, "Tied peers"), they stay consistent for every
 /// selection, even if the replication fails. After a replication between consistent peers, an audit finds no uncovered

@@ -27,9 +27,9 @@ use repl_log::Counts;
 use rev_tree::{Origin, SessionId};
 use std::mem::replace;
 
-/// Settles the first documents of a parcel, if they have prepared arrivals. Stops at the first document that cannot be
-/// stored. Returns the number of settled documents. The caller then settles the next document individually to find out
-/// why the document could not be stored in bulk.
+/// Settles the first documents of a parcel, if they have prepared arrivals. Stops at the first document that is refused
+/// or cannot be stored. Returns the number of settled documents. The caller then settles the next document individually
+/// to find out why the document could not be stored in bulk.
 ///
 /// The call adds the arrivals as one list, to avoid adding each arrival separately while the peer is locked. If the
 /// allocation for the list of arrivals fails, no document is settled.

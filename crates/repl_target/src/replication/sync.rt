@@ -36,10 +36,10 @@ pub enum SyncFault {
 ///
 /// If the peers are consistent in both directions (docs/PROFILE.md, "Tied peers"), a successful call gives each peer
 /// the other peer's leaves of each shared document. A document is shared if both plans select the document and neither
-/// peer has ever refused the document. If the two trees of a shared document agree and have complete histories, a
-/// successful call between consistent peers gives both peers the same revisions, parents, contents of leaves and
-/// winner. Two trees agree if no revision has different parents or contents in the two trees. If the two trees of a
-/// shared document agree and have complete histories, they still do after a successful call between consistent peers.
+/// peer has ever refused the document. Two trees agree if no revision has different parents or contents in the two
+/// trees. Assume that a shared document's trees agree and have complete histories before a successful call between
+/// consistent peers. After the call, the trees still agree and have complete histories. Both peers then have the same
+/// revisions, parents, contents of leaves and winner of the document.
 ///
 /// If the peers are consistent in both directions, they stay consistent for every result of the call. Peer `a` stays
 /// consistent with every other peer whose UUID differs from the UUID of `b`. Peer `b` stays consistent with every other
