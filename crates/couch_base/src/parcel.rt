@@ -16,8 +16,8 @@ use std::marker::Model;
 /// that are gone.
 ///
 /// Each requested revision of a document is gone, or in the ancestry of a fetched document with the same id. The
-/// ancestry of each fetched document contains a requested revision. No two documents have the same id and newest
-/// revision.
+/// ancestry of each fetched document contains a requested revision. No two documents have both the same id and the same
+/// newest revision.
 pub struct Parcel {
     asked: Asked,
     docs: Vec<Doc>,
@@ -26,8 +26,8 @@ pub struct Parcel {
     made: Vec<Option<PreparedTree>>,
 }
 
-// `Parcel` has a handwritten `drop`, because the code of `#[derive(Drop)]` would be proved again in each crate that
-// owns a `Parcel` (docs/DECISIONS.md, "Letting values go").
+// `Parcel` implements `Drop` by hand. With `#[derive(Drop)]`, each crate that owns a `Parcel` would have to prove the
+// derived code again (docs/DECISIONS.md, "Letting values go").
 impl Drop for Parcel {
     fn drop(self) {
         let Parcel {
@@ -98,8 +98,8 @@ impl Parcel {
         &self.asked
     }
 
-    /// Returns the documents in the order of the request. Fetched documents with the same id are in the order of
-    /// leaves, winner first.
+    /// Returns the documents in the order of the request. Fetched documents with the same id are in the tree's order of
+    /// leaves: the winner is first.
     pub fn docs(&self) -> &[Doc]
         ensures value { result.now ≡ self.now.docs }
         ensures parcel { IsParcel self.now }
@@ -107,7 +107,7 @@ impl Parcel {
         &self.docs
     }
 
-    /// Returns the gone revisions: requested revisions that are not in the trees of their documents.
+    /// Returns the gone revisions: those requested revisions that their document's tree does not have.
     pub fn gone(&self) -> &[(DocId, Rev)]
         ensures value { result.now ≡ self.now.gone }
         ensures parcel { IsParcel self.now }
@@ -115,8 +115,9 @@ impl Parcel {
         &self.gone
     }
 
-    /// Splits the parcel into request, documents, gone revisions and prepared trees. The prepared trees are in the
-    /// order of the documents. The list of prepared trees is empty if `prepare` was not called for the parcel.
+    /// Splits the parcel into its parts: the request, the documents, the gone revisions and the prepared trees. The
+    /// prepared trees are in the order of the documents. The list of prepared trees is empty if `prepare` was not
+    /// called for the parcel.
     pub fn into_parts(
         self,
     ) -> (
@@ -139,9 +140,9 @@ impl Parcel {
     }
 
     /// Builds the trees that the parcel's documents would have if the documents were new at the target. The origin of
-    /// each tree is a session and the sequence of the document's row. In contracts, a parcel is a request, documents
-    /// and gone revisions, without prepared trees, so `prepare` does not change the parcel (clause `same`).
-    /// `Database::put_prepared` can store the prepared trees.
+    /// each tree consists of `session` and the sequence of the document's row. For contracts, prepared trees are not
+    /// part of a parcel, so `prepare` does not change the parcel (clause `same`). `Database::put_prepared` can store
+    /// the prepared trees.
     pub fn prepare(
         &mut self,
         alloc: Global,
@@ -166,9 +167,9 @@ impl Parcel {
     }
 }
 
-/// Builds the trees that the given documents would have if the documents were new at the target. For each document,
-/// `make_all` searches the window's rows from the previous document's row on. If `make_all` does not find a document's
-/// row, it builds no tree for this document and the documents after it.
+/// Builds the trees that the given documents would have if the documents were new at the target. `make_all` searches
+/// the window's rows for each document, starting at the row of the previous document. If a document's row is not found,
+/// `make_all` builds no tree for this document or any later document.
 fn make_all(
     alloc: Global,
     session: SessionId,
@@ -190,8 +191,8 @@ fn make_all(
     Ok(all)
 }
 
-/// Returns the index of the first row with the given id at or after index `from`, or the number of rows if there is no
-/// such row.
+/// Searches the rows from index `from` on for a document id, and returns the index of the first match. Without a match,
+/// returns the number of rows.
 fn row_from(rows: &[Row], id: &DocId, from: usize) -> usize {
     for place in from..rows.len() {
         if rows[place].id() == id {

@@ -7,8 +7,8 @@ use doc_json::{Doc, DocId};
 use rev_tree::{Origin, SessionId, Tree};
 use std::alloc::{AllocError, Global};
 
-/// The id of a document, and the tree that the document would have if it were new at the target. The origin of the
-/// tree's revisions (the write that adds them) is a session and a sequence of the session's feed.
+/// A document's id, and the tree that the target would create for the document if the document were new there. Each
+/// revision in the tree has the same origin: a session and a sequence of this session's feed.
 #[derive(Drop)]
 pub struct PreparedTree {
     pub(crate) key: DocId,
@@ -18,8 +18,8 @@ pub struct PreparedTree {
 }
 
 impl PreparedTree {
-    /// Builds the tree of a new document. The origin of the tree's revisions (the write that adds them) is a session
-    /// and a sequence of the session's feed.
+    /// Builds the tree of a new document. Each revision in the tree has the same origin: a session and a sequence of
+    /// this session's feed.
     pub(crate) fn of(
         alloc: Global,
         doc: &Doc,
@@ -29,8 +29,8 @@ impl PreparedTree {
         ensures { IfOk result (IsMadeOf doc.now) }
     {
         let ancestry = doc.ancestry();
-        // The call of `revs` has no effect at run time. This function's proof needs the contract of `revs`, which says
-        // that an ancestry has at least one revision.
+        // The call of `revs` has no effect at run time. The proof of this function needs the contract of `revs`: an
+        // ancestry has at least one revision.
         let _revs = ancestry.revs();
         let content = content_of(doc.deleted(), doc.body())?;
         let mut tree = Tree::new(alloc);

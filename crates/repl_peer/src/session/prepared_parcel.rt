@@ -12,15 +12,15 @@ use rev_tree::SessionId;
 use std::alloc::{AllocError, Global};
 use std::marker::Model;
 
-/// A parcel, optionally with the trees and the arrivals (a session's records of merged documents) of its documents. The
-/// trees and arrivals are built before the peer is locked.
+/// A parcel, optionally with prepared trees and prepared arrivals for its documents. An arrival is a session's record
+/// of a merged document. The trees and arrivals are built before the peer is locked.
 pub struct PreparedParcel {
     parcel: Parcel,
     arrivals: Vec<Written>,
 }
 
-// The type `PreparedParcel` has no `#[derive(Drop)]`, because each crate that owns a `PreparedParcel` would have to
-// prove the derived code (docs/DECISIONS.md, "Letting values go").
+// `PreparedParcel` implements `Drop` by hand. With `#[derive(Drop)]`, each crate that owns a `PreparedParcel` would
+// have to prove the derived code again (docs/DECISIONS.md, "Letting values go").
 impl Drop for PreparedParcel {
     fn drop(self) {
         let PreparedParcel {
@@ -53,9 +53,9 @@ impl PreparedParcel {
         }
     }
 
-    /// Builds the arrivals of a parcel's documents, and the trees that these documents would have as new documents. The
-    /// origin of each tree is a session and the sequence of the document's row. For contracts, the prepared parcel
-    /// keeps its value when arrivals and trees are built.
+    /// Builds the arrivals of a parcel's documents, and the trees that the documents would have if they were new at the
+    /// target. The origin of each tree consists of `session` and the sequence of the document's row. For contracts,
+    /// arrivals and trees are not part of the value, so `prepare` does not change the prepared parcel (clause `same`).
     pub fn prepare(
         &mut self,
         alloc: Global,
@@ -77,7 +77,8 @@ impl PreparedParcel {
         &self.parcel
     }
 
-    /// Splits the prepared parcel into request, documents, gone revisions, prepared trees and prepared arrivals.
+    /// Splits the prepared parcel into its parts: the request, the documents, the gone revisions, the prepared trees
+    /// and the prepared arrivals.
     pub(crate) fn into_parts(
         self,
     ) -> (
