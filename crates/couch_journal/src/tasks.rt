@@ -40,8 +40,8 @@ pub(crate) enum Task<'a> {
     Conflicts,
     /// Prints a line for each leaf. Each line begins with the given word.
     Name(&'a str),
-    /// Reads two lists of leaves, and prints leaves that only the second list has. `Compare(true)` prints a leaf only
-    /// if the first list does not contain the leaf's document.
+    /// Reads two lists of leaves, and prints the leaves that only the second list has. `Compare(true)` prints a leaf
+    /// only if the first list does not contain the leaf's document.
     Compare(bool),
     /// Prints the identity of a server or of a database.
     Info,

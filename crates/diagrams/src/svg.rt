@@ -174,7 +174,7 @@ fn draw_column(
 
 /// Draws the edge from the previous column to the column that begins at generation `low`. The edge ends in the row at
 /// index `place`. If this row branches off an earlier row in the previous column, the edge starts in the earlier row.
-/// Draws nothing if the column is the picture's first column, or if a row starts in the column without branching off.
+/// Draws nothing in the picture's first column, and in the first column of a row that does not branch off.
 fn draw_edge(
     out: &mut Vec<u8>,
     low: u32,

@@ -221,8 +221,8 @@ impl Lacking {
         self.count.wrong
     }
 
-    /// Whether the task rejected the second part of the input. This part must be a `_revs_diff` response that names
-    /// only leaves in the list.
+    /// Whether the second part of the input is missing, or the task rejected it. This part must be a `_revs_diff`
+    /// response that names only leaves in the list.
     pub fn is_refused(&self) -> bool
         ensures { result ≡ self.now.refused }
     {

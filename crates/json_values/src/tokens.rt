@@ -315,7 +315,8 @@ impl<'a> Tokens<'a> {
     /// Returns the initial capacity of an array or object, before its first element is read. An empty array or object
     /// has the initial capacity 0. Any other array or object in a short text has the initial capacity 8. In a long
     /// text, the initial capacity is the length of the last value of the same kind (array or object) and depth (modulo
-    /// 4), but at most 16. The first value of a kind and depth (modulo 4) in a long text has the initial capacity 8.
+    /// 4). If this length exceeds 16, the capacity is 16. The first value of a kind and depth (modulo 4) in a long text
+    /// has the initial capacity 8.
     #[inline(always)]
     pub(crate) fn room(&self, is_object: bool, depth: usize) -> usize {
         let next = self.lexer.peek();

@@ -16,8 +16,8 @@ use rev_core::Rev;
 use std::alloc::{AllocError, Global};
 use std::str;
 
-/// Parses a line of a script's output (docs/PROFILE.md, "Answers" and "Pictures"). The result is a certain variant of
-/// `Told` if and only if the line has the format of this variant.
+/// Parses a line of a script's output (docs/PROFILE.md, "Answers" and "Pictures"). The call returns a variant of `Told`
+/// if and only if the line has the format of this variant.
 pub fn read_line(alloc: Global, line: &[u8]) -> Result<Told, AllocError>
     ensures { IfOk result (λ told. Tells line.now told) }
 {

@@ -109,7 +109,7 @@ fn start_of(
 
 /// Begins a window (a range of the source's changes) at the sequence of the newest entry that both logs have. An entry
 /// is common if both logs have its session id with its sequence. If the logs have no common entry, the window begins at
-/// sequence 0, and the run stores a checkpoint at sequence 0 in both logs before it requests changes.
+/// sequence 0. The run then stores a checkpoint at sequence 0 in both logs before it requests changes.
 fn begin_window(
     alloc: Global,
     run: Run,

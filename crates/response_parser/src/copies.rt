@@ -240,8 +240,8 @@ fn spot_after(bytes: &[u8], quoted: bool, nesting: u8) -> Spot
 }
 
 impl Reading {
-    /// Copies input bytes that belong to the current value, and stops before the byte that completes the value. Returns
-    /// the number of copied bytes.
+    /// Copies input bytes that belong to the current value, and stops at the latest before the byte that completes the
+    /// value. Returns the number of copied bytes.
     #[inline(always)]
     pub(crate) fn copy(&mut self, bytes: &[u8]) -> Result<usize, AllocError>
         requires { (state_of self.old).found ≡ Nothing }

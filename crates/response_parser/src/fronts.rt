@@ -20,8 +20,8 @@ const LONG: usize = 262_144;
 /// current read.
 const RUN: usize = 1_024;
 
-/// When the parser tries to build the beginning of a document's output from n stored bytes, it reads at least n / 4
-/// bytes before it tries again.
+/// The parser reads at least n / `SHARE` bytes between two attempts to build the beginning of a document's output. The
+/// number n is the number of stored bytes at the earlier attempt.
 const SHARE: u64 = 4;
 
 /// The beginning of a long document's output, which the caller writes before the document ends. A `Front` is empty if

@@ -1,7 +1,7 @@
 //! Tests of networks whose peers are edited at random. After a replication through a hub, or two rounds of replications
 //! along a ring of peers, all peers must have the same documents. If the replication is repeated, it must change no
-//! peer. Audits must find no uncovered leaf. Other tests replicate along random hops, each from one peer to another. If
-//! a chain of hops leads from one peer to a second peer, the second peer must have all earlier leaves of the first
+//! peer. Audits must find no uncovered leaf. Another test replicates along random hops, each from one peer to another.
+//! If a chain of hops leads from one peer to a second peer, the second peer must have all earlier leaves of the first
 //! peer.
 use crate::tests::checks::holds;
 use crate::tests::feeds::id;

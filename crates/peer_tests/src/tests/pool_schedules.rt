@@ -242,7 +242,8 @@ impl Drawn {
     }
 
     /// Returns the order in which workers were chosen to run, and whether a wait took too long. A wait takes too long
-    /// if blocked workers sleep `SURE_NAPS` times, or if one worker checks `LOOKS` times whether it is released.
+    /// if blocked workers sleep `SURE_NAPS` times while they wait for another worker, or if one worker checks `LOOKS`
+    /// times whether it is released.
     fn end(self) -> (u64, bool) {
         let turns = self.turns.into_inner();
         (turns.order, turns.ran_out || self.ran_out.into_inner())

@@ -64,8 +64,8 @@ static WRAPPED: &[Row] = &[
         r#"{"_id":"a","_rev":"2-b","_attachments":{"f":{"data":"QUJDREVGRw"#,
         None,
     ),
-    // The documents' beginnings in the next three rows end in a member other than `_attachments`, outside of a string,
-    // and shortly after a quotation mark. For each of these rows, `begin_put` returns `false`.
+    // The documents' beginnings in the next three rows end, in this order, in a member other than `_attachments`,
+    // outside of a string, and shortly after a quotation mark. For each of these rows, `begin_put` returns `false`.
     (
         Call::BeginPut,
         r#"{"_id":"a","_revisions":{"start":1,"ids":["b"]},"x":{"f":{"data":"QUJDREVGRw"#,
@@ -100,8 +100,8 @@ static UNWRAPPED: &[Row] = &[
         r#"{"_id":"a","_rev":"2-b","whole":"\"x\":\"y\",\"_attachments\":{\"f\":{\"data\":\"QUJDREVGRw"#,
         Some(r#"{"_id":"a","_rev":"2-b","x":"y","_attachments":{"f":{"data":"QUJDREVGRw"#),
     ),
-    // The envelopes' beginnings in the next three rows end outside of a wrapped string, in a member other than `whole`,
-    // and shortly after an escape. For each of these rows, `begin_take` returns `false`.
+    // The envelopes' beginnings in the next three rows end, in this order, outside of a wrapped string, in a member
+    // other than `whole`, and shortly after an escape. For each of these rows, `begin_take` returns `false`.
     (
         Call::BeginTake,
         r#"{"_id":"a","_rev":"2-b","whole":"\"x\":1234567890"#,
