@@ -78,7 +78,7 @@ fn is_clean(
     Some(is_nothing(found?))
 }
 
-/// Whether the target covers all selected documents of the source, but not all documents.
+/// Whether the target covers the selected documents of the source, but not all documents of the source.
 fn has_them_alone(
     alloc: Global,
     source: &Peer<Rules>,
@@ -144,9 +144,10 @@ fn fill(alloc: Global, source: &mut Peer<Rules>) -> Option<()> {
     Some(())
 }
 
-/// The values that the test observes in a replication of selected documents. A `Seen` tuple begins with the length of
-/// the replication id, the number of rows in a page of the feed, and the recorded sequence. A `Seen` tuple ends with
-/// the target's update sequence, and with whether the target covers all selected documents but not all documents.
+/// The values that the test observes in a replication of selected documents. The first three values are the length of
+/// the replication id, the number of rows in a page of the feed, and the recorded sequence. The fourth value is the
+/// target's update sequence. The last value says whether the target covers the selected documents, but not all
+/// documents.
 type Seen = (usize, usize, u64, u64, bool);
 
 /// Fills the peer `source`, replicates the selected documents into the peer `target`, and returns the values that the
@@ -178,8 +179,8 @@ fn ended(alloc: Global, source: &mut Peer<Rules>, target: &mut Peer<Rules>) -> O
     ))
 }
 
-/// Replicates selected documents of a source into a new target. The function is separate from its caller, because each
-/// further variable of a function that owns a peer lengthens the proof.
+/// Replicates selected documents of a source into a new target. Each variable of a function that owns a peer lengthens
+/// the function's proof. The source and the target are therefore variables of different functions.
 fn into_target(alloc: Global, source: &mut Peer<Rules>) -> Option<Seen> {
     let mut target = Peer::new(alloc, 2, Rules { deny: None });
     ended(alloc, source, &mut target)

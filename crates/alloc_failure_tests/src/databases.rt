@@ -52,7 +52,8 @@ fn reading(db: &Database, id: &DocId) -> (u64, usize, usize, Option<Rev>) {
     }
 }
 
-/// Returns the sequences of a feed's rows as the digits of a number in base 1000, modulo 2^64.
+/// Combines the sequences of the feed's rows into one number: the sequences are the digits of the number in base 1000.
+/// The number is taken modulo 2^64.
 fn feed(alloc: Global, db: &Database) -> Result<u64> {
     if db.update_seq() == 0 {
         return Ok(0);
@@ -274,8 +275,8 @@ fn session(alloc: Global, db: &mut Database, empty: &Database) -> Result<(u64, C
     copy_exchanged(alloc, db, empty)
 }
 
-/// Calls `session` with two new databases. The function has few variables, because each further variable of a function
-/// that owns a database lengthens the proof.
+/// Calls `session` with two new databases. The function has few variables, because each variable of a function that
+/// owns a database lengthens the function's proof.
 fn between(alloc: Global) -> Result<(u64, Counts)> {
     let mut db = Database::new(alloc, 7);
     let empty = Database::new(alloc, 8);

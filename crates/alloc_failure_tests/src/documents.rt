@@ -78,7 +78,7 @@ fn is_first(alloc: Global, text: &[u8]) -> bool {
     }
 }
 
-/// Whether a JSON value gives the expected body, and an edit with this body creates the expected revision.
+/// Whether a JSON value is read as the expected body, and an edit with this body creates a revision of generation 1.
 fn is_edited(alloc: Global, members: &Value) -> bool {
     match body(alloc, members) {
         Ok(body) => body.text() == b"{\"n\":1}".as_slice() && is_first(alloc, body.text()),

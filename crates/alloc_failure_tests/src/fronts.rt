@@ -31,8 +31,8 @@ fn grows(front: &mut Front) -> bool {
     grows
 }
 
-/// Whether `reserve` and `finish` succeed for the window of two sequences that starts at `lo`. The call of `finish`
-/// needs no retry, because the test has reserved space.
+/// Whether `reserve` and `finish` succeed for the window that starts at `lo` and has two sequences. The call of
+/// `finish` needs no retry, because the test has reserved space.
 fn finishes(front: &mut Front, lo: u64) -> bool {
     reserved(front).is_ok() && front.finish(lo, lo.saturating_add(2)).is_ok()
 }
@@ -40,8 +40,8 @@ fn finishes(front: &mut Front, lo: u64) -> bool {
 /// The start sequences of the windows in the order in which the test finishes them.
 static BEGINNINGS: &[u64] = &[2, 6, 0, 4];
 
-/// Returns the low water (the sequence up to which all windows are done) after appending and finishing the windows, if
-/// all calls succeed.
+/// Appends and finishes the windows. If all calls succeed, returns the low water (the sequence up to which all windows
+/// are done).
 fn ended(alloc: Global) -> Option<u64> {
     let mut front = Front::new(alloc, 0);
     let mut well = grows(&mut front);

@@ -135,7 +135,8 @@ fn is_written(alloc: Global, id: &RepId, log: &Log) -> bool {
     }
 }
 
-/// Whether entries could be stored in a log, and the text of a copy of the log is as expected.
+/// Stores entries in a log, and copies the log. Returns whether all entries were stored, and the texts of the
+/// replication id and of the copy are as expected.
 fn of_one(alloc: Global) -> bool {
     let mut log = Log::new(alloc);
     if !grows(&mut log) {

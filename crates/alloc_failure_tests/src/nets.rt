@@ -85,7 +85,7 @@ fn is_clean(alloc: Global, net: &Net<Rules>, source: usize, target: usize) -> bo
     }
 }
 
-/// Whether each audit between two peers finds that the target covers (has in a tree or in a session's ledger) each leaf
+/// Audits each pair of peers. Returns whether each target covers (has in a tree or in a session's ledger) all leaves
 /// that the audit reads.
 fn are_clean(alloc: Global, net: &Net<Rules>) -> bool {
     let mut clean = true;
@@ -120,8 +120,7 @@ fn hops(alloc: Global, first: u128, at: Moment) -> Option<Vec<Hop>> {
     Some(hops)
 }
 
-/// Calls the function `hops`, which creates a list of hops (replications between two peers), and calls `hops` again if
-/// an allocation fails.
+/// Creates a list of hops, which are replications between two peers, and retries if an allocation fails.
 fn some_hops(alloc: Global, first: u128, at: Moment) -> Option<Vec<Hop>> {
     match hops(alloc, first, at) {
         Some(hops) => Some(hops),
@@ -161,7 +160,7 @@ fn plans(alloc: Global, first: u128, at: Moment) -> Option<Vec<Plan>> {
     Some(plans)
 }
 
-/// Calls the function `plans`, which creates a list of plans, and calls `plans` again if an allocation fails.
+/// Creates a list of plans, and retries if an allocation fails.
 fn some_plans(alloc: Global, first: u128, at: Moment) -> Option<Vec<Plan>> {
     match plans(alloc, first, at) {
         Some(plans) => Some(plans),

@@ -123,8 +123,8 @@ fn opened(alloc: Global, peer: &Peer<Rules>, asked: &Asked) -> Option<Parcel> {
     }
 }
 
-/// Returns the parameters of a session that begins at sequence 0, and should end at sequence `goal` of the source,
-/// whose database has the life 0.
+/// Returns the parameters of a session from sequence 0 to the sequence `goal` of the source. The source's database has
+/// the life 0.
 fn beginning(goal: u64) -> Beginning {
     let scope = Scope {
         rep: REP,
@@ -154,8 +154,7 @@ fn append(alloc: Global, peer: &mut Peer<Rules>, window: &Window) -> Option<()> 
     }
 }
 
-/// If settling ran out of memory, returns the number of settled documents and the number of documents that were not
-/// settled.
+/// If settling ran out of memory, returns the numbers of settled and of unsettled documents.
 fn stopped(fault: TargetFault) -> Option<(u64, usize)> {
     match fault {
         TargetFault::Stopped {
@@ -272,8 +271,8 @@ fn tell(rt: &impl Print, settled: Settled, report: Report, sequence: u64) -> Res
 }
 
 /// Runs the session, and returns the numbers of settled documents, the report, and the target's update sequence. Before
-/// the session, the target has a tree that contradicts a tree of the source: a revision has different parents in the
-/// two trees.
+/// the session, a tree of the target contradicts a tree of the source. A revision has different parents in the two
+/// trees.
 fn session(
     alloc: Global,
     source: &mut Peer<Rules>,
@@ -293,8 +292,8 @@ fn session(
     Some((settled, report, target.db().update_seq()))
 }
 
-/// Runs the session with a target that refuses documents. The function is separate from its caller, because each
-/// further variable of a function that owns a peer lengthens the proof.
+/// Runs the session with a target that refuses documents. Each variable of a function that owns a peer lengthens the
+/// function's proof. The source and the target are therefore variables of different functions.
 fn into_target(
     alloc: Global,
     source: &mut Peer<Rules>,

@@ -128,8 +128,8 @@ fn ended<G: Gate + Sync, R: Threads + Wait + Sync>(
     Some((report.recorded, target.db().update_seq(), clean))
 }
 
-/// Replicates a source into a new target with the pool. The function is separate from its caller, because each further
-/// variable of a function that owns a peer lengthens the proof.
+/// Replicates a source into a new target with the pool. Each variable of a function that owns a peer lengthens the
+/// function's proof. The source and the target are therefore variables of different functions.
 fn into_target<G: Gate + Sync, R: Threads + Wait + Sync>(
     rt: &R,
     alloc: Global,

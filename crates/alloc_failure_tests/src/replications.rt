@@ -80,8 +80,8 @@ fn fill(alloc: Global, source: &mut Peer<Rules>) -> Option<()> {
     Some(())
 }
 
-/// Returns the recorded sequence of the last replication, and the target's update sequence. Also returns whether an
-/// audit finds no uncovered leaf (a leaf of the source that the target neither stored nor rejected).
+/// Returns the recorded sequence of the last replication, and the target's update sequence. The last returned value
+/// says whether, according to an audit, the target has stored or rejected each leaf of the source.
 fn ended(
     alloc: Global,
     source: &mut Peer<Rules>,
@@ -100,8 +100,8 @@ fn ended(
     Some((report.recorded, target.db().update_seq(), clean))
 }
 
-/// Replicates a source into a new target. The function is separate from its caller, because each further variable of a
-/// function that owns a peer lengthens the proof.
+/// Replicates a source into a new target. Each variable of a function that owns a peer lengthens the function's proof.
+/// The source and the target are therefore variables of different functions.
 fn into_target(alloc: Global, source: &mut Peer<Rules>) -> Option<(u64, u64, bool)> {
     let mut target = Peer::new(alloc, 2, Rules { deny: None });
     ended(alloc, source, &mut target)

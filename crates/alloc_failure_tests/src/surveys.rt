@@ -11,8 +11,8 @@ use repl_target::{Peer, Rules};
 use rev_tree::Tree;
 use std::alloc::{AllocError, Global};
 
-/// Two leaves of a document. The target has one of the two leaves, and has a different parent for a revision in the
-/// ancestry of the other leaf.
+/// Two leaves of a document at the source. The target has the second leaf. The ancestry of the first leaf has the
+/// revision 2-b, which has another parent at the target.
 const SOURCE: [&str; 2] = [
     r#"{"_id":"d","_revisions":{"start":3,"ids":["d","b","a"]}}"#,
     r#"{"_id":"d","_revisions":{"start":2,"ids":["c","a"]}}"#,

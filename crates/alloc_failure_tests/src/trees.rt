@@ -83,7 +83,7 @@ fn other(alloc: Global) -> Option<Ancestry> {
     }
 }
 
-/// Returns the ancestry 12-l to 1-l. After merging the 12 revisions from 12-l to 1-l, a tree with another branch needs
+/// Returns the ancestry 12-l to 1-l. If a tree with another branch merges this ancestry of 12 revisions, the tree needs
 /// an index.
 fn long(alloc: Global) -> Option<Ancestry> {
     match Sig::parse(b"l") {
@@ -107,8 +107,8 @@ fn mixed(alloc: Global) -> Option<Ancestry> {
     }
 }
 
-/// Merges an optional ancestry. Returns true if the merge has the expected result and no failed call of `merge` changed
-/// the tree, and otherwise false.
+/// Merges an optional ancestry. Returns whether the merge has the expected result, and no failed call of `merge`
+/// changed the tree.
 fn merges(alloc: Global, tree: &mut Tree, given: Option<&Ancestry>, wanted: Merged) -> bool {
     let Some(given) = given else {
         return false;
@@ -137,7 +137,7 @@ fn copied(alloc: Global, tree: &Tree) -> Result<Tree, AllocError> {
     }
 }
 
-/// Whether the given leaf is the only leaf that is in a list of revisions or descends from a revision of the list.
+/// Whether `leaf` is the only leaf of the tree that is in `revs` or descends from a revision in `revs`.
 fn is_above(alloc: Global, tree: &Tree, revs: &[Rev], leaf: Rev) -> bool {
     match leaves_above(alloc, tree, revs) {
         Ok(above) => above.as_slice() == [leaf].as_slice(),
@@ -153,7 +153,7 @@ fn has_all(alloc: Global, tree: &Tree, revs: &[Rev]) -> bool {
     }
 }
 
-/// Whether the tree has all revisions of a leaf's ancestry, and no other leaf descends from these revisions.
+/// Whether the tree has all revisions of the leaf's ancestry, and no other leaf descends from one of these revisions.
 fn is_read(alloc: Global, tree: &Tree, leaf: Rev) -> bool {
     match ancestry(alloc, tree, leaf) {
         Ok(walk) => {
@@ -176,7 +176,7 @@ fn are_read(alloc: Global, tree: &Tree) -> bool {
 }
 
 /// Builds a tree (`grows`), copies the tree, and checks the copy (`are_read`). Returns the numbers of leaves and
-/// revisions of the copied tree, or `None` if `grows`, the copying or `are_read` fails.
+/// revisions of the copy, or `None` if building, copying or checking the tree fails.
 fn ended(alloc: Global) -> Option<(usize, usize)> {
     let mut tree = Tree::new(alloc);
     if !grows(alloc, &mut tree) {

@@ -5,7 +5,7 @@ use doc_json::{Doc, DocFault, read_line_body, read_line_doc, write_doc};
 use json_values::{ReadFault, ValueReader};
 use std::alloc::{AllocError, Global};
 
-/// Two compact JSON texts, of which the second needs a larger reading buffer than the first.
+/// Two compact JSON texts. The second text needs a larger reading buffer than the first text.
 static TEXTS: &[&[u8]] = &[
     b"{\"n\":[1,{\"m\":\"x\"}]}",
     b"{\"l\":[{\"a\":\"a text with a \\\" in it\",\"b\":-15},{\"a\":[],\"b\":{\"c\":true}},null]}",
@@ -15,7 +15,7 @@ static TEXTS: &[&[u8]] = &[
 const DOCUMENT: &[u8] =
     b"{\"_id\":\"d\",\"_rev\":\"3-c\",\"_revisions\":{\"start\":3,\"ids\":[\"c\",\"b\",\"a\"]},\"n\":[1,{\"m\":\"x\"}]}";
 
-/// Whether a JSON text, read as a value, gives a body with the same text.
+/// Whether a JSON text, read as a document body, is serialized to the same text.
 fn is_its_body(reader: &mut ValueReader, alloc: Global, text: &[u8]) -> Result<bool, DocFault> {
     let line = match reader.read_line(alloc, text) {
         Ok(line) => line,
@@ -65,7 +65,7 @@ fn is_body(reader: &mut ValueReader, alloc: Global, text: &[u8]) -> Result<bool,
     }
 }
 
-/// Whether a single `ValueReader` returns the expected results for each text of `TEXTS` and for the text `DOCUMENT`.
+/// Whether one `ValueReader` reads all texts in `TEXTS` and the text `DOCUMENT` with the expected results.
 fn are_read(alloc: Global) -> bool {
     let mut reader = ValueReader::new(alloc);
     let mut are_read = true;

@@ -1,6 +1,6 @@
-//! Calls `World::run`. If an allocation fails in a step of `World::run`, the world is in the state before this step, or
-//! the step has settled a part of a parcel. After a failed step, the test takes the remaining steps. The final result
-//! is the same as after a run without a failed allocation.
+//! Calls `World::run`. If an allocation fails in a step of `World::run`, the step has no effect, or has settled only a
+//! part of a parcel. After a failed step, the test takes the remaining steps. The final result is the same as after a
+//! run without a failed allocation.
 use crate::peers::{body, doc, doc_id};
 use anyhow::{Result, bail};
 use repl_log::Moment;
@@ -13,8 +13,8 @@ use std::alloc::Global;
 /// The only session.
 const SESSION: SessionId = SessionId(1);
 
-/// The observed values of a session: the number of its windows, its low water (the sequence up to which all windows are
-/// done), and its recorded sequence.
+/// The number of a session's windows, its low water (the sequence up to which all windows are done), and its recorded
+/// sequence.
 type Session = (usize, u64, u64);
 
 /// The observed values of a world: the source's life (incarnation), the peers' update sequences, the session if it has
@@ -29,9 +29,9 @@ struct Seen {
 }
 
 /// Each entry of `BEFORE` has the values that a failed step may leave, and the index of the step with which the test
-/// continues. Three entries of `BEFORE` are for the step that settles a parcel, which may fail after it has settled a
-/// part of the parcel. The test does not observe the source's log and backups, because the test may repeat the steps
-/// that store a log entry or back up the source.
+/// continues. Three entries of `BEFORE` are for the step that settles a parcel. This step may fail after it has settled
+/// a part of the parcel. The test may repeat the steps that store a log entry or back up the source. The test therefore
+/// does not observe the source's log and backups.
 static BEFORE: &[(
     u64,
     u64,
@@ -188,7 +188,7 @@ fn look(world: &World<Rules>) -> Seen {
     }
 }
 
-/// Returns the index of the step with which the test continues, if the table `BEFORE` has the observed values.
+/// Returns the index of the step with which the test continues, or `None` if `BEFORE` lacks the observed values.
 fn left(seen: Seen) -> Option<usize> {
     for (life, source, target, session, sizes, place) in BEFORE {
         let before = Seen {
@@ -206,7 +206,7 @@ fn left(seen: Seen) -> Option<usize> {
 }
 
 /// Performs all steps of a list on a world (two peers and the messages between them). If an allocation fails, the call
-/// continues with the step that `left` returns.
+/// continues with the step whose index `left` returns.
 fn take(alloc: Global, world: &mut World<Rules>, steps: &[Step]) -> Option<()> {
     if world.run(alloc, steps).is_ok() {
         return Some(());
@@ -230,8 +230,8 @@ fn is_clean(alloc: Global, world: &World<Rules>) -> bool {
 }
 
 /// Performs all steps of the test on a world (two peers and the messages between them). Returns the session's recorded
-/// sequence, and the values observed after the last step. Also returns whether an audit finds no uncovered leaf (a leaf
-/// of the source that the target neither stored nor rejected).
+/// sequence, and the values observed after the last step. The last returned value says whether, according to an audit,
+/// the target has stored or rejected each leaf of the source.
 fn ended(alloc: Global, world: &mut World<Rules>) -> Option<(u64, Seen, bool)> {
     let all = match steps(alloc) {
         Some(all) => Some(all),
@@ -250,8 +250,8 @@ fn ended(alloc: Global, world: &mut World<Rules>) -> Option<(u64, Seen, bool)> {
     Some((entry.recorded, look(world), clean))
 }
 
-/// Calls `ended` with two new peers and no messages in transit. When `of_two` calls `ended`, the `World` value is the
-/// only live variable of `of_two`, because each further variable lengthens the proof.
+/// Calls `ended` with two new peers and no messages in transit. During the call of `ended`, only the variable `world`
+/// is alive, because each further variable lengthens the proof.
 fn of_two(alloc: Global) -> Option<(u64, Seen, bool)> {
     let source = Peer::new(alloc, 1, Rules { deny: None });
     let target = Peer::new(alloc, 2, Rules { deny: None });

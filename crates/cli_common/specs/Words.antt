@@ -18,7 +18,8 @@ flag_option name = record (new_rule name) { long = Some name; action = Some SetT
 abbrev pub hidden_option : List ℕ → Rule
 hidden_option name = record (new_rule name) { action = Some Set }
 
--- Whether an option without a value is set, given the text that `clap` stores for the option.
+-- The value `flag` says whether an option without a value is set. An option is set if `clap` stores the text `true` for
+-- it, and unset if `clap` stores `false` or no text.
 abbrev pub IsFlag : Option (List ℕ) → Bool → Type 0
 IsFlag text flag =
     ((text ≡ None) → flag ≡ false) × ((text ≡ Some (codes "true")) → flag ≡ true)

@@ -1,5 +1,4 @@
-//! Reads the arguments of a program, and determines the exit status if the program runs nothing because of its
-//! arguments.
+//! Reads the arguments of a program. If the program runs nothing because of its arguments, determines the exit status.
 ghost use Rattle.std.specs.Prelude.{◌≡◌, ◌≤◌};
 ghost use Rattle.clap.specs.Words.{kind_of};
 ghost use Rattle.cli_common.specs.Status.{kind_status};

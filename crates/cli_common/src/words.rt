@@ -6,8 +6,8 @@ ghost use Rattle.cli_common.specs.Words.{IsFound, flag_option, hidden_option, pr
 use clap::{Arg, ArgAction, ArgMatches, Command, Error};
 use std::alloc::Global;
 
-/// Defines the command line of a program without arguments, given the program's name, a description, and the text that
-/// follows the help.
+/// Defines the command line of a program without arguments. The parameters are the program's name, its description, and
+/// the text that follows the help.
 pub fn program<'a>(alloc: Global, name: &'a str, about: &'a str, help: &'a str) -> Command<'a>
     ensures { app_of result ≡ program_app name.entry.now }
 {
@@ -28,8 +28,8 @@ pub fn flag<'a>(alloc: Global, name: &'a str, help: &'a str) -> Arg<'a>
         .help(help)
 }
 
-/// Defines a positional argument that does not appear in the help. A program accepts a hidden positional argument so
-/// that the program, not `clap`, prints the error, for example about a file name.
+/// Defines a positional argument that does not appear in the help. Because of the hidden argument, the program itself,
+/// and not `clap`, prints the error about an argument such as a file name.
 pub fn hidden_word<'a>(alloc: Global, name: &'a str) -> Arg<'a>
     ensures rule { rule_of result ≡ hidden_option name.entry.now }
     ensures local { result.global ≡ false }

@@ -9,8 +9,8 @@ use std::alloc::Global;
 use std::sync::Wait;
 use std::thread::Threads;
 
-/// A command of scripts, which reads its parameters from a line, runs, and prints its output. The type that implements
-/// this trait holds the parameters and borrows from the line.
+/// A command of scripts, which reads its parameters from a line, runs, and prints its output. A value of the
+/// implementing type holds the parameters of a command, and borrows from the line.
 pub trait Command<L>: Sized + Drop {
     ghost use Rattle.std.specs.Prelude.{Result};
     ghost use Rattle.std.specs.Thread.{IsSync};
@@ -22,16 +22,16 @@ pub trait Command<L>: Sized + Drop {
     // The JSON value of a line.
     ghost seen: { L → Data };
 
-    // The values of the command's parameters, as contracts see them.
+    // The type that contracts use for the command's parameters.
     ghost Ask: { Type 0 };
 
     ghost asked: { Self → Ask };
 
-    // The parameters that a JSON object gives, or `BadCommand` if the object is not a valid command.
+    // The parameters in a JSON object, or the error `BadCommand` if the object is not a valid command.
     ghost asked_in: { Data → Result Ask Refusal };
 
-    // The relation between the state before the command, the command's parameters, the command's result, and the state
-    // after the command.
+    // The relation that specifies a command. The relation has four arguments: the state before the command, the
+    // parameters, the result, and the state after the command.
     ghost answers: { Answering State Ask };
 
     /// Reads the command's parameters from the object of a line. Returns `None` if the object is not a valid command.
@@ -39,9 +39,10 @@ pub trait Command<L>: Sized + Drop {
     fn read(line: L) -> Option<Self>
         ensures { needed (option_map asked result) ≡ asked_in (seen line) };
 
-    /// Runs the command, and writes its output into the buffer. The relation `answers` allows the result of the
-    /// command. Even if `answers` does not allow `Memory`, every command may fail with `Memory`. A command that fails
-    /// with `Memory` has no effect, or has the effect of a success whose output could not be stored.
+    /// Runs the command, and writes its output into the buffer. The relation `answers` defines the results that the
+    /// command may return. Every command may also fail with `Memory`, even if `answers` does not allow this error. If
+    /// `answers` does not allow `Memory` and the command fails with `Memory`, the command changed nothing, or succeeded
+    /// without storing its output.
     fn serve<H: Threads + Wait + Sync>(
         &self,
         rt: &H,

@@ -1,5 +1,5 @@
-//! Parses the ids, revisions, bodies and documents of a line. Each command calls the parsing functions of this module
-//! in the order in which PROFILE lists the checks.
+//! Parses the ids, revisions, bodies and documents of a line. Each command calls the functions of this module in the
+//! order that PROFILE specifies for the checks.
 ghost use Rattle.std.specs.Prelude.{◌≡◌, option_map};
 ghost use Rattle.std.specs.Option.{option_copied};
 ghost use Rattle.json_values.specs.LineView.{line_view, line_items};

@@ -1,5 +1,5 @@
-//! The interface of commands (`command`), and the functions that commands share. The shared functions read the members
-//! of a line (`members`), parse the members' values (`given`), and print results (`texts`).
+//! The interface of commands (`command`), and the functions that commands share. The module `members` reads the members
+//! of a line, `given` parses the members' values, and `texts` prints results.
 #![tactic(auto)]
 
 mod command;

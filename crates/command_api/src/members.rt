@@ -30,8 +30,8 @@ pub fn name_member<'v>(value: &'v LineValue<'_>, key: &str) -> Option<&'v str>
     }
 }
 
-/// Reads an optional Boolean. Returns `Some(None)` if the object lacks the member, and `None` if the member has a wrong
-/// type.
+/// Reads an optional Boolean. If the object lacks the member, returns `Some(None)`. If the member has a wrong type,
+/// returns `None`.
 pub fn optional_flag(value: &LineValue<'_>, key: &str) -> Option<Option<bool>>
     ensures { result ≡ optional as_bool key.now (line_view value.now) }
 {

@@ -10,7 +10,8 @@ use itoa::Buffer;
 use rev_core::Rev;
 use std::alloc::{AllocError, Global};
 
-/// Appends a number. A number of four digits, the usual case, is copied in one step if the buffer has enough capacity.
+/// Appends a number. If the number has four digits (the usual case) and the buffer has enough capacity, the digits are
+/// copied in one step.
 #[inline(never)]
 pub fn push_number(text: &mut Vec<u8>, number: u64) -> Result<(), AllocError>
     ensures { OnOk result (text.new.items ≡ text.old.items ++ decimal number) }
@@ -58,8 +59,8 @@ pub fn push_count(text: &mut Vec<u8>, count: usize) -> Result<(), AllocError>
     push_number(text, count as u64)
 }
 
-/// Appends a revision. The call copies the revision in one step if the signature has 32 bytes, the generation has one
-/// or three digits, and the buffer has enough capacity.
+/// Appends a revision. A fast path copies the revision in one step. The fast path needs a signature of 32 bytes, a
+/// generation of one or three digits, and enough capacity in the buffer.
 #[inline(never)]
 pub fn push_rev(text: &mut Vec<u8>, rev: &Rev) -> Result<(), AllocError>
     ensures { OnOk result (text.new.items ≡ text.old.items ++ rev_text rev.now) }
@@ -184,7 +185,7 @@ fn push_line_of_revs(
     Ok(())
 }
 
-/// Appends the output line in which `changes` or `docs` prints the last sequence of a feed.
+/// Appends the output line with the last sequence of a feed. The commands `changes` and `docs` print this line.
 pub fn push_last(text: &mut Vec<u8>, last: u64) -> Result<(), AllocError>
     ensures { OnOk result (text.new.items ≡ text.old.items ++ last_line last) }
 {

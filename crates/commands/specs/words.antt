@@ -100,7 +100,8 @@ asked_in d = do
   name ← needed (text_at (codes "do") d)
   asked_by name d
 
--- A request that runs in the state `old` may have the result `told`, and leave the state `new`.
+-- If a request runs in the state `old`, `told` is one of its possible results, and `new` is the state after this
+-- result.
 abbrev pub WordsAnswer : Answering State Asked
 WordsAnswer old (load ask) told new = Loads old ask told new
 WordsAnswer old (edit ask) told new = Edits old ask told new

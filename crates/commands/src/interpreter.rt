@@ -87,8 +87,8 @@ impl<'a, H: Threads + Wait + Sync, L: ObserveAnswers> Serve for Interpreter<'a, 
     }
 }
 
-/// Runs a line that is not blank, and writes the line's output into the buffer. If the call writes only the first piece
-/// of the output, the call returns the rest of the output.
+/// Runs a line that is not blank, and writes the line's output into the buffer. If the buffer gets only the first piece
+/// of the output, the call returns the rest.
 fn answer_line<H: Threads + Wait + Sync>(
     rt: &H,
     alloc: Global,
@@ -152,10 +152,10 @@ pub fn read_object<'a>(
 ///
 /// - `Read`: the reader failed in this call, or 4,294,967,295 reads of at most 65,536 bytes were made.
 /// - `Write`: the writer failed in this call.
-/// - `Memory`: an allocation failed before anything was read, or while a line was read. With the error `Memory`, the
-///   output of all earlier lines is complete.
-/// - `Cut`: an allocation failed after the first piece of a line's output. With the error `Cut`, the output of all
-///   earlier lines is complete, and a part of the failed line's output is missing.
+/// - `Memory`: an allocation failed before anything was read, or while a line was read. The output of all earlier lines
+///   is then complete.
+/// - `Cut`: an allocation failed after the first piece of a line's output. The output of this line is then incomplete,
+///   and the output of all earlier lines is complete.
 pub fn run_script<H, R: ScriptRead, W: ScriptWrite, L: ObserveAnswers>(
     rt: &H,
     reader: &mut R,
@@ -178,9 +178,9 @@ where
         × Appends (W.held writer.old) (W.held writer.new) text
         × IsAnswered TrustedLines (no_databases (program_of settings.now)) input clean text state) }
     ensures end { OnOk result (IsAtEnd (R.left reader.new)) }
-    // The clauses `answers` and `trust` are about the complete input of the reader. The clause `took` states the
-    // guarantees of `answers` and `trust` for the input bytes that the call has read. The clause `ended` says that the
-    // last read found the end of the input.
+    // The clauses `answers` and `trust` are about all bytes that the reader can return. The clause `took` gives the
+    // guarantees of `answers` and `trust` for the bytes that the call has read. The clause `ended` says that the last
+    // read found the end of the input.
     ensures took { IfOk result
         (λ clean. (input : List ℕ) × (text : List ℕ) × (state : State)
         × Appends (R.taken reader.old) (R.taken reader.new) input × Appends (W.held writer.old) (W.held writer.new) text
@@ -188,15 +188,15 @@ where
     ensures ended { OnOk result (R.ended reader.new) }
     ensures counted { OnOk result ((R.failures reader.new ≡ R.failures reader.old)
         × (W.failures writer.new ≡ W.failures writer.old)) }
-    // If the call returns an error, the written text is a prefix of the lines' output, and the reader or writer that
-    // the error names has failed. The call returns `Memory` only before the first read or while reading a line, and the
-    // output of all earlier lines is complete.
+    // If the call returns an error, the written text is a prefix of the output of all lines. The statement `IsFaultOf`
+    // says which failures cause the errors `Read` and `Write`. The error `Memory` occurs only before the first read, or
+    // while a line is read. After `Memory`, the output of all earlier lines is complete.
     ensures fault { IfErr result (λ fault. (input : List ℕ) × (text : List ℕ) × Gives (R.left reader.old) input
         × Appends (W.held writer.old) (W.held writer.new) text
         × IsToldUntil fault LinesAnswer (no_databases (program_of settings.now)) input text
         × IsFaultOf fault (R.reads reader.old) (R.reads reader.new) (R.failures reader.old) (R.failures reader.new)
         (W.failures writer.old) (W.failures writer.new)) }
-    // The clause `trust_until` states which guarantees hold for the output that was written before an error.
+    // The clause `trust_until` says what is guaranteed for the output that the call wrote before an error.
     ensures trust_until { IfErr result (λ fault. (input : List ℕ) × (text : List ℕ) × Gives (R.left reader.old) input
         × Appends (W.held writer.old) (W.held writer.new) text
         × IsToldUntil fault TrustedLines (no_databases (program_of settings.now)) input text) }
@@ -204,8 +204,8 @@ where
         × Appends (R.taken reader.old) (R.taken reader.new) input × Appends (W.held writer.old) (W.held writer.new) text
         × IsToldUntil fault TrustedLines (no_databases (program_of settings.now)) input text) }
     // If a read fails, the output of all lines that were read is complete. Unless a write failed, the call has flushed
-    // the output of all lines that were read. The clause `read` describes the state before each read, because each read
-    // may fail.
+    // the output of all lines that were read. The clause `read` describes the output and the databases before a failed
+    // read. Because each read may fail, the clause applies before each read.
     ensures read { IfErr result (λ fault. fault ≡ Read → (taken : List ℕ) × (text : List ℕ) × (state : State)
         × Consumes (R.left reader.old) (R.left reader.new) taken × Appends (W.held writer.old) (W.held writer.new) text
         × AnswersEnded TrustedLines (no_databases (program_of settings.now)) taken text state) }

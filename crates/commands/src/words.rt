@@ -65,8 +65,8 @@ fn command_name_of(value: &LineValue<'_>) -> Option<CommandName>
 }
 
 /// Runs the command that the member `do` of a line's JSON object names, and writes the command's output into the buffer
-/// `answer`. If the call writes only the first piece of the output, the call returns the rest of the output. The call
-/// may block if the command is `replicate` or `sync`.
+/// `answer`. If the buffer gets only the first piece of the output, the call returns the rest. The call may block if
+/// the command is `replicate` or `sync`.
 pub fn serve<H: Threads + Wait + Sync>(
     rt: &H,
     alloc: Global,

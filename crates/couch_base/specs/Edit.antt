@@ -14,8 +14,8 @@ use Rattle.couch_base.specs.Put.{after_put}
 use Rattle.couch_base.specs.declared.fault.BaseFault.{BaseFault}
 use Rattle.couch_base.specs.declared.fault.BaseFault.TheVariants as faults
 
--- The parent of an edit is the named leaf, or the deleted winner if no parent is named and all leaves are deleted. A
--- new document's edit has no parent.
+-- If an edit names a leaf as its parent, that leaf is the parent. If an edit names no parent, and all leaves of the
+-- document are deleted, the parent is the deleted winner. An edit of a new document has no parent.
 abbrev pub parent_answer : Option TreeValue → Option RevId → Result (Option RevId) BaseFault
 parent_answer None None = Ok None
 parent_answer None (Some parent) = Err faults.NoSuchDocument

@@ -49,7 +49,7 @@ none_filter q p (x ∷ xs) h =
 pub all_append : {X : Type 0} (p : X → Bool) (xs ys : List X) → list_all p xs ≡ true → list_all p ys ≡ true → list_all p (xs ++ ys) ≡ true
 all_append p xs ys h k = list_all-append p xs ys ∙ and_from _ _ h k
 
--- If f(x) satisfies p for each x that satisfies q, each element of `map f (filter q xs)` satisfies p.
+-- If p is true for f(x) whenever q is true for x, then p is true for every element of `map f (filter q xs)`.
 pub all_made : {X Y : Type 0} (p : Y → Bool) (f : X → Y) (q : X → Bool) → ((x : X) → q x ≡ true → p (f x) ≡ true) → (xs : List X) → list_all p (map f (filter q xs)) ≡ true
 all_made p f q h [] = refl
 all_made p f q h (x ∷ xs) =

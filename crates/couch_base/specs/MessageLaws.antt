@@ -127,7 +127,7 @@ fetched_wanted ds (w ∷ ws) =
     (opened_wanted w ws (tree_of ds w.id))
     (all_weaker (is_wanted ws) (is_wanted (w ∷ ws)) (λ d k. or_right _ _ k) (fetched ds ws) (fetched_wanted ds ws))
 
--- ---- documents of a parcel differ in id or newest revision
+-- ---- any two documents of a parcel differ in id or newest revision
 
 heads : (m : FinMap rev_cmp RevId) (n k : ℕ) (a b : RevId) → same_head (walk m n a) (walk m k b) ≡ eq_by_cmp rev_cmp a b
 heads m zero zero a b = refl
@@ -146,7 +146,7 @@ each_opened : (id : Id) (t : TreeValue) (xs : List RevId) → EachOnce (eq_by_cm
 each_opened id t [] h = tt
 each_opened id t (x ∷ xs) h = (apart_in id t x xs h.0, each_opened id t xs h.1)
 
--- If document d does not have the id `id`, `same_revision d` is false for each leaf of document `id`.
+-- If document d has an id other than `id`, `same_revision` is false for d and every leaf of document `id`.
 apart_from : (d : Document) (id : Id) (t : TreeValue) (ys : List RevId) → bytes_eq d.id id ≡ false → list_any (same_revision d) (map (leaf_document id t) ys) ≡ false
 apart_from d id t [] h = refl
 apart_from d id t (y ∷ ys) h = ap (λ b. b || list_any (same_revision d) (map (leaf_document id t) ys)) (and_left _ (same_head d.ancestry (ancestors t y)) h) ∙ apart_from d id t ys h

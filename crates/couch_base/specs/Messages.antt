@@ -1,6 +1,6 @@
 -- Defines requests for missing revisions, and fetched parcels, as specified in docs/PROFILE.md, "Missing revisions" and
--- "Fetching". CouchDB's "Replication Protocol" specifies the corresponding requests: `_revs_diff`, and fetches with
--- `latest`.
+-- "Fetching". The corresponding requests in CouchDB's "Replication Protocol" are `_revs_diff`, and fetches with the
+-- parameter `latest`.
 use Rattle.std.specs.Prelude.{◌≡◌, ℕ, ◌<◌, Bool, true, false, ◌&&◌, ◌||◌, List, [], ◌∷◌, ◌++◌, map, length, Option, refl}
 use Rattle.std.specs.Coded.{Coded, code_by, coded×, coded_ℕ, coded_list}
 use Rattle.std.specs.List.{list_any, list_all, AllByRecursion}
@@ -53,14 +53,15 @@ coded_parcel =
 
 -- ---- requesting
 
--- The list `others` of requests. If a list of revisions of document `id` is not empty, a request for these revisions is
--- added at the beginning of the list `others`.
+-- A list of requests: a request for the given revisions of document `id`, and then the requests `others`. If no
+-- revisions are given, the list has only the requests `others`.
 abbrev pub want_first : Id → List RevId → List WantedValue → List WantedValue
 want_first id [] others = others
 want_first id (r ∷ revs) others = record { id = id; revs = r ∷ revs } ∷ others
 
 -- The requests for missing leaves: one request for each feed row that has missing leaves, in the order of the rows. A
--- leaf of a feed row is missing if the documents `ds` do not have this leaf in the tree of the row's document.
+-- leaf of a feed row is missing if the row's document is not in the list `ds`, or if the document's tree there lacks
+-- the leaf.
 abbrev pub wanted : List DocumentValue → List RowValue → List WantedValue
 wanted ds [] = []
 wanted ds (r ∷ rows) = want_first r.id (missing (tree_of ds r.id) r.leaves) (wanted ds rows)
@@ -80,8 +81,8 @@ abbrev pub leaf_document : Id → TreeValue → RevId → Document
 leaf_document id t leaf =
     record { id = id; ancestry = ancestors t leaf; deleted = is_deleted t leaf; body = body_at t leaf }
 
--- The document with the id `id`, revision r's ancestry in tree t, and r's content. The value is `None` if t does not
--- store r's content.
+-- Revision r as a document: the document's id is `id`, and its ancestry and content come from the tree t. The value is
+-- `None` if the tree t does not store the content of r.
 abbrev pub document_in : Id → TreeValue → RevId → Option Document
 document_in id t r =
     option_map (λ (c : ContentValue). record { id = id; ancestry = ancestors t r; deleted = c.deleted; body = c.body })

@@ -20,7 +20,7 @@ is_change (Ok merges.Changed) = true
 is_change (Ok merges.Same) = false
 is_change (Err c) = false
 
--- The result of a put, computed from three arguments: the result of the merge, whether the database has an unused
+-- The result of a put. The arguments are the result of the merge, a Boolean that is true if the database has an unused
 -- sequence, and the next sequence.
 abbrev pub put_told : Result Merged Contradiction → Bool → ℕ → Result Put BaseFault
 put_told (Err c) room next = Err (faults.Contradiction c.child c.known c.given)
@@ -32,7 +32,7 @@ abbrev pub put_answer : DatabaseValue → Document → Result Put BaseFault
 put_answer db d =
     put_told (merge_answer (tree_of db.docs d.id) d.ancestry) (nat_lt db.update_seq most) (db.update_seq + 1)
 
--- Whether a put with the given result changes the database and therefore takes a sequence.
+-- Whether a put with the given result takes a sequence, because the put changes the database.
 abbrev pub is_changed : Result Put BaseFault → Bool
 is_changed (Ok (answers.Changed seq)) = true
 is_changed (Ok answers.Same) = false

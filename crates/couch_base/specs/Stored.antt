@@ -33,7 +33,7 @@ coded_table =
     (coded× (coded_list (coded× coded_id coded_kept)) (coded× (coded_list (coded× coded_ℕ coded_ℕ)) coded_ℕ))
     (λ t. (t.entries, (t.rows, t.last))) (λ p. record { entries = p.0; rows = p.1.0; last = p.1.1 }) (λ _. refl)
 
--- The id at position i of a list, or the empty id if the list has no position i.
+-- The id at index i of a list, or the empty id if the list has at most i ids.
 abbrev pub id_at : List Id → ℕ → Id
 id_at ids i = unwrap_or (slice_get ids i) []
 
@@ -129,8 +129,8 @@ abbrev pub InOrder : List (ℕ × ℕ) → Type 0
 InOrder [] = Unit {0}
 InOrder (e ∷ rows) = ((x : ℕ × ℕ) → Among x rows → e.0 < x.0) × InOrder rows
 
--- The rows of a database's index are valid: positions are below the number n of documents, and sequences rise and are
--- below a bound s.
+-- The rows of a database's index are valid. The position in each row is below the number n of documents. The sequences
+-- of the rows rise, and are below the number s.
 pub record AreRows (n s : ℕ) (rows : List (ℕ × ℕ)) : Type 0 where
   pub places : ArePlaces n rows
   pub below : AllBelow s rows
@@ -151,7 +151,7 @@ pub record IsPlace (docs : List (Id × Kept)) (id : Id) (place : Option ℕ) : T
   pub there : IfSome place (λ i. (k : Kept) × (slice_get docs i ≡ Some (id, k)) × (found docs id ≡ Some k))
   pub absent : place ≡ None → found docs id ≡ None
 
--- The maps g and h from ids to documents are equal, except that h has document k at `id`.
+-- The map h from ids to documents equals the map g, except that h maps `id` to the document k.
 abbrev pub Sets : (Id → Option Kept) → (Id → Option Kept) → Id → Kept → Type 0
 Sets g h id k = (q : Id) → h q ≡ cond (bytes_eq id q) (Some k) (g q)
 

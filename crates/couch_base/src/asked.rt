@@ -8,15 +8,15 @@ use rev_tree::Revs;
 use std::alloc::{AllocError, Global};
 use std::marker::Model;
 
-/// The id of a document, and the revisions that are requested of this document. In an `Asked`, the list of revisions is
-/// not empty and has no duplicates.
+/// The id of a document, and the revisions that are requested of this document. In a request (`Asked`), each document's
+/// list of revisions is not empty and has no duplicates.
 pub struct Wanted {
     id: DocId,
     revs: Revs,
 }
 
-// `Wanted` has a handwritten `drop`, because the code of `#[derive(Drop)]` would be proved again in each crate that
-// owns a `Wanted` (docs/DECISIONS.md, "Letting values go").
+// `Wanted` implements `Drop` by hand. With `#[derive(Drop)]`, each crate that owns a `Wanted` would have to prove the
+// derived code again (docs/DECISIONS.md, "Letting values go").
 impl Drop for Wanted {
     fn drop(self) {
         let Wanted { id: _, revs: _ } = self;
@@ -65,16 +65,16 @@ impl Wanted {
     }
 }
 
-/// A request for the window `(lo, hi]` of a feed. The request names no document twice, and has the requested revisions
-/// of each named document.
+/// A request for the window `(lo, hi]` of a feed. The request lists each requested document once, with the revisions
+/// that are requested of this document.
 pub struct Asked {
     lo: u64,
     hi: u64,
     docs: Vec<Wanted>,
 }
 
-// `Asked` has a handwritten `drop`, because the code of `#[derive(Drop)]` would be proved again in each crate that owns
-// an `Asked` (docs/DECISIONS.md, "Letting values go").
+// `Asked` implements `Drop` by hand. With `#[derive(Drop)]`, each crate that owns an `Asked` would have to prove the
+// derived code again (docs/DECISIONS.md, "Letting values go").
 impl Drop for Asked {
     fn drop(self) {
         let Asked {

@@ -13,8 +13,8 @@ use rev_core::{Ancestry, Rev, new_rev};
 use rev_tree::{Content, Tree};
 use std::alloc::{AllocError, Global};
 
-/// Returns the parent of an edit: the named leaf, or the winner if no parent is named and all leaves are deleted.
-/// Otherwise returns `Conflict`.
+/// Returns the parent of an edit. If the edit names a leaf, the parent is this leaf. If the edit names no parent and
+/// all leaves are deleted, the parent is the winner. Otherwise returns `Conflict`.
 pub(crate) fn parent_in(tree: &Tree, parent: Option<Rev>) -> Result<Option<Rev>, BaseFault>
     ensures { result ≡ parent_answer (Some tree.now) parent }
 {
@@ -95,8 +95,8 @@ fn ancestry_of(alloc: Global, rev: Rev, parent: Option<Rev>) -> Result<Ancestry,
     ensures ancestry { IfOk result (λ a. a ≡ rev ∷ option_to_list parent) }
 {
     let mut revs = Vec::with_capacity(alloc, 2)?;
-    // The calls of `generation` have no effect at run time. This function's proof needs the contract of `generation`,
-    // which says that `rev` and `parent` are valid revisions.
+    // The calls of `generation` have no effect at run time. The proof of this function needs the contract of
+    // `generation`: `rev` and `parent` are valid revisions.
     let _generation = rev.generation();
     revs.push(rev)?;
     let Some(parent) = parent else {

@@ -22,7 +22,8 @@ use std::alloc::{AllocError, Global};
 impl Database {
     ghost use Rattle.couch_base.specs.Messages.{revs_diff, open_revs, document_at};
 
-    /// Returns the leaves of another database's window that this database lacks, in the order of the window's rows.
+    /// Returns those leaves of `window` that this database lacks, in the order of the window's rows. The window comes
+    /// from another database.
     ///
     /// A revision that this database knows only as an ancestor is not missing.
     pub fn revs_diff(&self, alloc: Global, window: &Window) -> Result<Asked, AllocError>
@@ -37,8 +38,8 @@ impl Database {
     }
 
     /// Returns the documents for a request, and the requested revisions that this database does not have. For each
-    /// requested document, the result has each leaf that is a requested revision or descends from one, with the leaf's
-    /// known ancestry and content.
+    /// requested document, the result has each leaf that is a requested revision or a descendant of one. Each leaf has
+    /// its known ancestry and its content.
     ///
     /// The result has the documents in the order of the request, and the leaves of a document winner first.
     pub fn open_revs(&self, alloc: Global, asked: &Asked) -> Result<Parcel, AllocError>
@@ -76,7 +77,7 @@ impl Database {
         Ok(count)
     }
 
-    /// Returns the number of documents that `open_revs` would return for the requested revisions of one document.
+    /// Counts the leaves of one requested document that `open_revs` would return.
     fn count_wanted(
         &self,
         alloc: Global,
@@ -174,7 +175,7 @@ impl Database {
     }
 }
 
-/// For each of the given leaves, appends the leaf as a document to a list.
+/// Appends each of the given leaves to the list `docs`, as a document.
 fn add_documents(
     alloc: Global,
     id: &DocId,

@@ -26,9 +26,9 @@ pub enum Put {
 /// Why a call failed.
 #[derive(Clone, Copy, Debug, Error)]
 pub enum BaseFault {
-    /// A revision has one parent in the given ancestry and a different parent in the document's tree. The variant's
-    /// `child` is the newest revision with two different parents, `known` its parent in the tree, and `given` its
-    /// parent in the ancestry.
+    /// A revision has one parent in the given ancestry and a different parent in the document's tree. The field `child`
+    /// is the newest revision with two different parents. The field `known` is the child's parent in the tree, and
+    /// `given` is the child's parent in the ancestry.
     #[error("a revision has another parent in the document's tree")]
     Contradiction { child: Rev, known: Rev, given: Rev },
     /// The update sequence has reached the maximum, 9,007,199,254,740,991.
@@ -40,12 +40,10 @@ pub enum BaseFault {
     /// The limit (the maximum number of rows to read) of a page of the changes feed is 0.
     #[error("a page has at least one row")]
     BadLimit,
-    /// The goal of a page of the changes feed (the sequence up to which the page may extend) is not above the sequence
-    /// at which the page begins.
+    /// The upper limit of a page of changes (its goal) is not above the sequence at which the page begins.
     #[error("the goal is not above the start")]
     BadRange,
-    /// The goal of a page of the changes feed (the sequence up to which the page may extend) is above the database's
-    /// update sequence.
+    /// The upper limit of a page of changes (its goal) is above the database's update sequence.
     #[error("the goal is above the update sequence {update_seq}")]
     GoalAhead { update_seq: u64 },
     /// An edit names a parent, and the document does not exist.

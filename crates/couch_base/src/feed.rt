@@ -7,8 +7,8 @@ use rev_tree::{Revs, Tree};
 use std::alloc::{AllocError, Global};
 use std::marker::Model;
 
-/// A changed document in the changes feed, as a reference into the database. In contracts, the value of a `Change` is
-/// the document's feed row.
+/// A changed document in the changes feed, as a reference into the database. Contracts treat a `Change` as the
+/// document's row in the changes feed.
 #[derive(Drop)]
 pub struct Change<'a> {
     seq: u64,

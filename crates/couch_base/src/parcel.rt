@@ -15,8 +15,8 @@ use std::marker::Model;
 /// that are gone.
 ///
 /// Each requested revision of a document is gone, or in the ancestry of a fetched document with the same id. The
-/// ancestry of each fetched document contains a requested revision. No two documents have the same id and newest
-/// revision.
+/// ancestry of each fetched document contains a requested revision. No two documents have both the same id and the same
+/// newest revision.
 pub struct Parcel {
     asked: Asked,
     docs: Vec<Doc>,
@@ -25,8 +25,8 @@ pub struct Parcel {
     made: Vec<Option<PreparedTree>>,
 }
 
-// `Parcel` has a handwritten `drop`, because the code of `#[derive(Drop)]` would be proved again in each crate that
-// owns a `Parcel` (docs/DECISIONS.md, "Letting values go").
+// `Parcel` implements `Drop` by hand. With `#[derive(Drop)]`, each crate that owns a `Parcel` would have to prove the
+// derived code again (docs/DECISIONS.md, "Letting values go").
 impl Drop for Parcel {
     fn drop(self) {
         let Parcel {
@@ -117,8 +117,8 @@ impl Parcel {
         &self.asked
     }
 
-    /// Returns the documents in the order of the request. Fetched documents with the same id are in the order of
-    /// leaves, winner first.
+    /// Returns the documents in the order of the request. Fetched documents with the same id are in the tree's order of
+    /// leaves: the winner is first.
     pub fn docs(&self) -> &[Doc]
         ensures value { result.now ≡ self.now.docs }
         ensures parcel { IsParcel self.now }
@@ -126,7 +126,7 @@ impl Parcel {
         &self.docs
     }
 
-    /// Returns the gone revisions: requested revisions that are not in the trees of their documents.
+    /// Returns the gone revisions: those requested revisions that their document's tree does not have.
     pub fn gone(&self) -> &[(DocId, Rev)]
         ensures value { result.now ≡ self.now.gone }
         ensures parcel { IsParcel self.now }
@@ -134,8 +134,8 @@ impl Parcel {
         &self.gone
     }
 
-    /// Splits the parcel into request, documents, gone revisions and prepared trees. The prepared trees are in the
-    /// order of the documents. The list of prepared trees may be shorter than the list of documents.
+    /// Splits the parcel into its parts: the request, the documents, the gone revisions and the prepared trees. The
+    /// prepared trees are in the order of the documents, and may be fewer than the documents.
     pub fn into_parts(
         self,
     ) -> (
@@ -157,10 +157,9 @@ impl Parcel {
         (asked, docs, gone, made)
     }
 
-    /// Builds the trees that the parcel's documents would have if the documents were new at the target, for documents
-    /// without a prepared tree. In contracts, a parcel is a request, documents and gone revisions, without prepared
-    /// trees, so `prepare` does not change the parcel (clause `same`). `Database::put_prepared` can store the prepared
-    /// trees.
+    /// Builds a tree for each document that has no prepared tree: the tree that the document would have if it were new at
+    /// the target. For contracts, prepared trees are not part of a parcel, so `prepare` does not change the parcel
+    /// (clause `same`). `Database::put_prepared` can store the prepared trees.
     pub fn prepare(&mut self, alloc: Global) -> Result<(), AllocError>
         ensures same { self.new ≡ self.old }
     {

@@ -25,8 +25,8 @@ impl PreparedTree {
         ensures { IfOk result (IsMadeOf doc.now) }
     {
         let ancestry = doc.ancestry();
-        // The call of `revs` has no effect at run time. This function's proof needs the contract of `revs`, which says
-        // that an ancestry has at least one revision.
+        // The call of `revs` has no effect at run time. The proof of this function needs the contract of `revs`: an
+        // ancestry has at least one revision.
         let _revs = ancestry.revs();
         let content = content_of(doc.deleted(), doc.body())?;
         let mut tree = Tree::new(alloc);

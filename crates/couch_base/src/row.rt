@@ -14,8 +14,8 @@ pub struct Row {
     leaves: Revs,
 }
 
-// `Row` has a handwritten `drop`, because the code of `#[derive(Drop)]` would be proved again in each crate that owns a
-// `Row` (docs/DECISIONS.md, "Letting values go").
+// `Row` implements `Drop` by hand. With `#[derive(Drop)]`, each crate that owns a `Row` would have to prove the derived
+// code again (docs/DECISIONS.md, "Letting values go").
 impl Drop for Row {
     fn drop(self) {
         let Row {

@@ -83,9 +83,9 @@ RunsResponse response ended input text (Err fault) =
 
 -- ---- `seal`
 
--- The output and the outcome of the task `seal`. If a block can contain every line of the input, the output is the line
--- that ends a block of all input lines. If a block cannot contain a line of the input, the output is empty. The outcome
--- then has the number of the first such line, counted from 1.
+-- The output and the outcome of the task `seal`. If every line of the input may be in a block, the output is the line
+-- that ends a block of exactly these lines. If a block cannot contain a line of the input, the output is empty. The
+-- outcome `Wrong` has the number of the first line that a block cannot contain, counted from 1.
 abbrev pub Seals : List ℕ → List ℕ → List ℕ → List ℕ → Outcome → Type 0
 Seals chain seq input text outcomes.Done = IsSeal chain seq input text
 Seals chain seq input text (outcomes.Wrong line) =
@@ -122,10 +122,10 @@ RunsAsk ended input text result =
     RunsLines (λ lines. asked_items false (leaves_in lines)) (λ lines rest. ask_body (leaves_in lines))
     (λ lines rest. wrong_or (wrong_line is_wrong lines rest) outcomes.Done) ended input text result
 
--- The effect of running the task `received`. Unless `only` is true, the output begins with the requested documents of
--- the response. If no line of the input is wrong, the output ends with the lines that `told_in` gives for the request.
--- If `only` is true, the lines of `told_in` list only the leaves that were not received. If no line of the input is
--- wrong, the outcome says whether a requested revision was not received.
+-- The effect of running the task `received`. If `only` is false, the output begins with the lines of the response that
+-- have requested documents. If no line of the input is wrong, the output ends with the lines that `told_in` gives for
+-- the request. If `only` is true, each line that `told_in` gives lists only leaves that were not received. If no line
+-- of the input is wrong, the outcome says whether a requested revision was not received.
 abbrev pub RunsReceived : Bool → Type 0 → List ℕ → List ℕ → Result Outcome ScriptFault → Type 0
 RunsReceived only ended input text result =
     RunsLines (passed_on only) (received_text only)
@@ -137,9 +137,10 @@ abbrev pub RunsDiff : Type 0 → List ℕ → List ℕ → Result Outcome Script
 RunsDiff ended input text result =
     RunsLines (λ lines. []) diff_text (λ lines rest. wrong_or (wrong_line is_wrong lines rest) outcomes.Done) ended input text result
 
--- The effect of running the task `lacking`. The output has a line for each document of the input's list for which the
--- response in the input names missing leaves. If a line of the list is wrong, the output is empty. If no line of the
--- list is wrong, the outcome says whether the response has a wrong form or is absent.
+-- The effect of running the task `lacking`. The input has a list of documents, and may have a response. If the response
+-- names missing leaves of a listed document, the output has a line for this document. If a line of the list is wrong,
+-- the output is empty. If no line of the list is wrong, the outcome says whether the response has a wrong form or is
+-- absent.
 abbrev pub RunsLacking : Type 0 → List ℕ → List ℕ → Result Outcome ScriptFault → Type 0
 RunsLacking ended input text result =
     RunsLines (λ lines. []) missing_text
@@ -152,8 +153,8 @@ RunsCompare documents ended input text result =
     RunsLines (compared_text documents) (λ lines rest. compared_text documents lines)
     (λ lines rest. wrong_or (wrong_compared lines rest) outcomes.Done) ended input text result
 
--- The effect of running the task `parts`: its output is the parts into which the input's lines are split. The argument
--- `limit` is a part's maximum number of bytes, with its maximum number of lines.
+-- The effect of running the task `parts`: its output is the parts into which the input's lines are split. The pair
+-- `limit` has the maximum number of bytes in a part, and the maximum number of lines in a part.
 abbrev pub RunsParts : ℕ × ℕ → Type 0 → List ℕ → List ℕ → Result Outcome ScriptFault → Type 0
 RunsParts limit ended input text result =
     RunsLines (complete_text limit) (parts_text limit) (λ lines rest. wrong_or (unended_line lines rest) outcomes.Done) ended input text result
@@ -198,10 +199,10 @@ RunsWords words ended input text (NotRun why) = (input ≡ []) × (text ≡ []) 
 RunsWords words ended input text (Ran result) =
     (o : Options) × (task : Task) × Says words o × IsTaskOf o task × RunsTask task o ended input text result
 
--- A run of the program on its standard streams. The first arguments of `RunsStandard` are the command line, and the
--- statement that the reads reached the end of the input. The argument `input` has the bytes that the reads returned,
--- `text` has the bytes that the output has accepted, and `ended` says how the run ended. If the last output of a run
--- cannot be flushed, a part of this output is missing, and the run ends as `unflushed` says.
+-- A run of the program on its standard streams. The argument `words` is the command line, and `all` is the statement
+-- that the reads reached the end of the input. The argument `input` has the bytes that the reads returned, `text` has
+-- the bytes that the output has accepted, and `ended` says how the run ended. If the last output of a run cannot be
+-- flushed, a part of this output is missing, and the run ends as `unflushed` says.
 abbrev pub RunsStandard : List (List ℕ) → Type 0 → List ℕ → List ℕ → Ended → Type 0
 RunsStandard words all input text ended =
     (first : Ended) × (rest : List ℕ) × RunsWords words all input (text ++ rest) first

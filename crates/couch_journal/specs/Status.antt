@@ -12,7 +12,8 @@ use Rattle.couch_journal.specs.declared.ended.Outcome.TheVariants.{Done, Missing
 use Rattle.couch_journal.specs.declared.ended.Ended.{Ended}
 use Rattle.couch_journal.specs.declared.ended.Ended.TheVariants.{NotRun, Ran}
 
--- The outcome `Wrong` with the number of the first wrong line, or the outcome `otherwise` if no line is wrong.
+-- The outcome of a task: `Wrong` with the number of the first wrong line, or the given outcome `otherwise` if no line
+-- is wrong.
 abbrev pub wrong_or : Option ℕ → Outcome → Outcome
 wrong_or (Some line) otherwise = Wrong line
 wrong_or None otherwise = otherwise

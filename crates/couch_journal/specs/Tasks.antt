@@ -81,15 +81,14 @@ has_other_option n o =
 abbrev pub arguments_given : Options → ℕ
 arguments_given o = if is_some o.second then 2 else if is_some o.first then 1 else 0
 
--- The given argument consists of an optional plus sign and the decimal digits of the number n, which has at most 64
--- bits.
+-- The given argument is the number n in decimal, with or without a leading plus sign, and n has at most 64 bits.
 abbrev pub IsNumber : Option (Bor (List ℕ)) → ℕ → Type 0
 IsNumber None n = ⊥
 IsNumber (Some text) n =
     IsNumeral 10 (without_leading_plus text.now) × (digits_value 10 (without_leading_plus text.now) < 2 ^ 64)
     × (n ≡ digits_value 10 (without_leading_plus text.now))
 
--- The task `task` has the name n, and takes its values from the parsed arguments and options, which are in o.
+-- The task with the name n, and with the parsed arguments and options o, is the task `task`.
 abbrev pub Fits : Named → Options → Task → Type 0
 Fits named.Page o task = task ≡ tasks.Page o.several
 Fits named.Ask o task = task ≡ tasks.Ask
@@ -119,7 +118,7 @@ Takes n o task = (has_other_option n o ≡ false) × (arguments_given o ≡ argu
 abbrev pub IsTaskOf : Options → Task → Type 0
 IsTaskOf o task = (n : Named) × (o.task.now ≡ word_of n) × Takes n o task
 
--- The command line o names no task, or names a task that does not take the arguments and options of o.
+-- The parsed command line o names no task, or has arguments and options that the named task does not take.
 abbrev pub IsTaskless : Options → Type 0
 IsTaskless o =
     ((n : Named) → o.task.now ≡ word_of n → ⊥)

@@ -34,7 +34,8 @@ pub(crate) enum Ended {
     Ran(Result<Outcome, ScriptFault>),
 }
 
-/// Returns the outcome `Wrong` for the first wrong line, or `otherwise` if no line is wrong.
+/// Returns the outcome of a task whose first wrong line has the number `wrong`. If no line is wrong, the outcome is
+/// `otherwise`.
 pub(crate) fn wrong_or(wrong: Option<u64>, otherwise: Outcome) -> Outcome
     ensures { result ≡ wrong_or wrong otherwise }
 {
@@ -55,7 +56,7 @@ pub(crate) fn missing_or_done(missing: bool) -> Outcome
     }
 }
 
-/// Returns the outcome `Said(Other)` if the response does not have the form that the task reads, otherwise `Done`.
+/// Returns `Done` if the response has the expected form, and otherwise `Said(Other)`.
 pub(crate) fn other_or_done(other: bool) -> Outcome
     ensures { result ≡ other_or_done other }
 {

@@ -1,4 +1,4 @@
-//! A program that reads and checks the journals of the jobs, and the responses of CouchDB that the jobs need.
+//! This program reads and checks the journals and the CouchDB responses that the scripts in `jobs/` use.
 //!
 //! The crate `journal_core` has the checksums of journals, and the crate `journal_lines` has the lines of journals. The
 //! crates `journal_tasks` and `journal_responses` implement the program's tasks. The crate `couch_journal` has the

@@ -32,8 +32,8 @@ pub(crate) fn run_program<H: AllocGlobal + Env + Input + Print + Eprint>(rt: &H)
 }
 
 /// Runs the program on standard input and output. Returns how the run ended, the reader of standard input, and the
-/// writer of standard output. The contract of `run_standard` says which bytes were read and written. The output is
-/// buffered, and flushed at the end of the run.
+/// writer of standard output. The contract of `run_standard` describes the input that was read and the output that was
+/// written. The output is buffered, and flushed at the end of the run.
 ///
 /// # Errors
 ///
@@ -58,8 +58,8 @@ where
     Ok((ended, reader, writer.into_inner()))
 }
 
-/// Flushes the output. Returns how the run ended: `first` if flushing succeeds, and otherwise the result of
-/// `unflushed`.
+/// Flushes the output, and returns how the run ended. If flushing succeeds, returns `first`. If flushing fails, returns
+/// the result of `unflushed`.
 fn flushed<W: ScriptWrite>(writer: &mut W, first: Ended) -> Ended
     ensures kept { Keeps (W.held writer.old) (W.held writer.new) }
     ensures flushed { (Keeps (W.held writer.new) (W.sent writer.new) × (result ≡ first)) ⊎ (result ≡ unflushed first) }
@@ -70,8 +70,8 @@ fn flushed<W: ScriptWrite>(writer: &mut W, first: Ended) -> Ended
     }
 }
 
-/// Returns how a run ends after the program failed to flush the run's last output. The run ends with `Write`, or with
-/// its earlier failure if it had failed before.
+/// Returns how a run ends after the program failed to flush the run's last output. If no task ran or the task had
+/// already failed, the result of the run does not change. Otherwise the run ends with the error `Write`.
 fn unflushed(ended: Ended) -> Ended
     ensures { result ≡ unflushed ended }
 {
@@ -81,8 +81,8 @@ fn unflushed(ended: Ended) -> Ended
     }
 }
 
-/// Returns the result of a task whose last output could not be flushed: `Write`, or the task's earlier failure if the
-/// task had failed already.
+/// Returns the result of a task whose last output could not be flushed. If the task ended with `Done` or `Missing`, the
+/// result is the error `Write`. Any other result of the task stays unchanged.
 fn unwritten(ran: Result<Outcome, ScriptFault>) -> Result<Outcome, ScriptFault>
     ensures { result ≡ unwritten ran }
 {

@@ -73,7 +73,7 @@ fn show_info(alloc: Global, value: &Value<'_>, text: &mut Vec<u8>) -> Result<boo
     }
 }
 
-/// Appends to `text` the output for a JSON value. Returns whether the value says that a document was rejected.
+/// Appends to `text` the output for a JSON value. Returns true if the value reports a rejected document.
 ///
 /// # Errors
 ///
@@ -97,7 +97,7 @@ fn show(
     }
 }
 
-/// Appends to `text` the output for a response. Returns whether the response says that a document was rejected.
+/// Appends to `text` the output for a response. Returns true if the response reports a rejected document.
 ///
 /// # Errors
 ///
@@ -344,8 +344,8 @@ fn run_diff<R: ScriptRead, W: ScriptWrite>(
     }
 }
 
-/// Prints the input's lines in parts of at most `bytes` bytes and `lines` lines. A single line that exceeds a maximum
-/// is a part of its own.
+/// Prints the input's lines in parts of at most `bytes` bytes and `lines` lines. If a single line exceeds a maximum,
+/// the task prints the line as a separate part.
 fn run_parts<R: ScriptRead, W: ScriptWrite>(
     alloc: Global,
     bytes: u64,
@@ -397,7 +397,7 @@ fn run_name<R: ScriptRead, W: ScriptWrite>(
     }
 }
 
-/// Prints the leaves of a list that another list lacks.
+/// Compares two lists of leaves, and prints leaves that only the second list has.
 fn run_compare<R: ScriptRead, W: ScriptWrite>(
     alloc: Global,
     documents: bool,

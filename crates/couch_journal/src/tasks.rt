@@ -18,8 +18,8 @@ pub(crate) enum Task<'a> {
     Diff,
     /// Prints the leaves of a list that a response of `_revs_diff` names as missing.
     Lacking,
-    /// Prints the received documents and the missing leaves of the request, or only the missing leaves if the Boolean
-    /// is true.
+    /// Prints the received documents, and the requested leaves that were not received. If the Boolean is true, prints
+    /// only the leaves that were not received.
     Received(bool),
     /// Splits the input's lines into parts, with a maximum number of bytes and a maximum number of lines per part.
     Parts(u64, u64),
@@ -33,15 +33,15 @@ pub(crate) enum Task<'a> {
     /// Prints the last state of each document of a journal. The task `States(true)` does not verify the journal's
     /// checksums.
     States(bool),
-    /// For each leaf in the last state of a document, prints the journal's last line that has this leaf. The number in
-    /// `Select` is the size of the journal in bytes.
+    /// For each leaf in a document's last state, prints the last line of the journal that contains this leaf. The
+    /// parameter of `Select` is the journal's size in bytes.
     Select(u64),
     /// Prints the documents that have two or more live leaves.
     Conflicts,
     /// Prints a line for each leaf. Each line begins with the given word.
     Name(&'a str),
-    /// Prints the leaves that the second of two lists has, and the first list lacks. The task `Compare(true)` prints
-    /// only the leaves of documents that the first list does not have.
+    /// Reads two lists of leaves, and prints the leaves that only the second list has. `Compare(true)` prints a leaf
+    /// only if the first list does not contain the leaf's document.
     Compare(bool),
     /// Prints the identity of a server or of a database.
     Info,
@@ -167,14 +167,14 @@ fn takes_unverified(named: Named) -> bool
     }
 }
 
-/// Whether the command line has (`given`) an option that the task does not take.
+/// Whether the command line gives an option, but the task does not take this option.
 fn is_other(given: bool, taken: bool) -> bool
     ensures { result ≡ is_other given taken }
 {
     given && !taken
 }
 
-/// Whether a command line has an option that the named task does not take.
+/// Whether the command line gives at least one option that the task `named` does not take.
 fn has_other_option(named: Named, options: &Options<'_>) -> bool
     ensures { result ≡ has_other_option named options.now }
 {

@@ -62,10 +62,10 @@ IsDone task left held held' result = Converts result (wanted_of task) (words_of_
 
 -- What a task of `couch_lines` guarantees if the task's input has the form that the task expects. A `load` task writes
 -- a `load` line for each document in CouchDB responses, in order, with the document's text or envelope. The tasks `ids`
--- and `diff` write each leaf of a response into a request body. If the input is the output of a script, a task writes
--- either the input's documents into request bodies, or a `doc` line for each leaf in the input's changes. A task does
--- not reject input of the expected form. If a task returns an error, the writer may have only a part of the task's
--- output (`ReadsAnswers`).
+-- and `diff` read a response, and write each leaf of the response into a request body. The task `bulk` reads the output
+-- of a script, and writes the documents of this output into request bodies. The task `leaves` reads the output of a
+-- script, and writes a `doc` line for each leaf in the changes of this output. A task does not reject input of the
+-- expected form. If a task returns an error, the writer may have only a part of the task's output (`ReadsAnswers`).
 abbrev pub Makes : Task → Option (List ℕ) → Option (List ℕ) → Option (List ℕ) → Result ℕ AnswerFault → Type 0
 Makes (Load db whole) left held held' result = (answers : List ℕ) → (documents : List Piece) → left ≡ Some answers
     → IsAnswered (wanted_of (Load db whole)) answers documents → ReadsAnswers (loads_of (string_bytes db)) documents held held' result
@@ -90,9 +90,10 @@ RunsWords words left left' held held' (Drawn ended) =
     (db : Option (String Global)) × (svg : Bool) × Says words (Trees db svg)
     × PicturedBy ended (form_of svg) (option_map string_bytes db) left held held'
 
--- A device (the reader or the writer) failed in a run exactly if the run's error names the device. As an exception, the
--- error `Read` may also mean that the maximum number of reads was reached. Besides the result, `RunCounts` takes three
--- numbers, each before and after the run: the numbers of reads, of the reader's failures, and of the writer's failures.
+-- The reader failed exactly if the run's error is `Read`, and the writer failed exactly if the run's error is `Write`.
+-- As an exception, the error `Read` may also mean that the maximum number of reads was reached. The numeric arguments
+-- of `RunCounts` are counts before and after the run: of the reads, of the reader's failures, and of the writer's
+-- failures.
 abbrev pub RunCounts : Result ℕ AnswerFault → ℕ → ℕ → ℕ → ℕ → ℕ → ℕ → Type 0
 RunCounts (Ok passed) reads reads' reader reader' writer writer' = (reader' ≡ reader) × (writer' ≡ writer)
 RunCounts (Err fault) reads reads' reader reader' writer writer' = CountsOf fault reads reads' reader reader' writer writer'

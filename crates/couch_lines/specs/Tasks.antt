@@ -94,8 +94,8 @@ Asks word second third whole svg task = (n : Named) × (word ≡ Some (word_of n
 -- ---- arguments without a task
 
 -- The reason why task n cannot be built from the argument `word` and the flags `whole` and `svg`. The reason is `Wrong`
--- only if the task named n does not accept the argument `word` and the flags `whole` and `svg`. With any argument
--- `word`, building a task may fail with the reason `Memory`, which means that an allocation failed.
+-- only if the task n does not take the argument `word` and the flags `whole` and `svg`. The reason `Memory` means that
+-- an allocation failed, and may occur with any argument `word`.
 abbrev pub FitsNone : Named → Option (List ℕ) → Bool → Bool → NoTask → Type 0
 FitsNone n word whole svg (Words error) = ⊥
 FitsNone n word whole svg Unknown = ⊥
@@ -103,8 +103,7 @@ FitsNone n word whole svg (Wrong m) = (m ≡ n) × ((t : Task) → Fits n word w
 FitsNone n word whole svg Memory = Unit {0}
 
 -- The reason why task n does not accept an argument. The reason is `Wrong` only if the argument is absent or is not a
--- database name. With any argument `word`, building a task may fail with the reason `Memory`, which means that an
--- allocation failed.
+-- database name. The reason `Memory` means that an allocation failed, and may occur with any argument `word`.
 abbrev pub NamesNone : Named → Option (List ℕ) → NoTask → Type 0
 NamesNone n word (Words error) = ⊥
 NamesNone n word Unknown = ⊥
@@ -113,7 +112,7 @@ NamesNone n word Memory = Unit {0}
 
 -- The reason why the arguments of a command line name no task. The reason is `Unknown` only if the first argument is
 -- not the name of a task. The reason is `Wrong` only if the first argument names a task that does not accept the
--- remaining arguments and flags. For all arguments, the reason may be `Memory`, which means that an allocation failed.
+-- remaining arguments and flags. The reason `Memory` means that an allocation failed, and may occur with any arguments.
 abbrev pub AskNothing : Option (List ℕ) → Option (List ℕ) → Option (List ℕ) → Bool → Bool → NoTask → Type 0
 AskNothing word second third whole svg (Words error) = ⊥
 AskNothing word second third whole svg Unknown = (n : Named) → word ≡ Some (word_of n) → ⊥

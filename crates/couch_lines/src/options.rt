@@ -66,7 +66,7 @@ pub enum NoTask {
     Words(Error),
     /// The task is unknown.
     Unknown,
-    /// The task that the command line names does not take the given arguments.
+    /// The task in the command line does not accept the given arguments and flags.
     Wrong(Named),
     /// An allocation failed.
     Memory,

@@ -19,9 +19,9 @@ use std::io::{Eprint, Input, Print, Printer, Write};
 use std::{io, str};
 
 /// Runs the program, and returns its exit status. The status is 0 on success, and 2 for a usage error. The status is 1
-/// if the program skipped an object or a line, or if an allocation for a line of `trees` failed. The status is 3 if the
-/// program rejects the input, or if reading or writing failed. A failed allocation for any purpose other than a line of
-/// `trees` also gives status 3.
+/// if the program skipped an object or a line. The status is also 1 if an allocation for a line of `trees` failed. The
+/// status is 3 if the program rejects the input, or if reading or writing failed. Every failed allocation except an
+/// allocation for a line of `trees` also gives status 3.
 pub fn run_program<H: AllocGlobal + Env + Input + Print + Eprint>(rt: &H) -> u8
     ensures { result ≤ 3 }
 {
@@ -154,7 +154,7 @@ fn tell_drawn(rt: &impl Eprint, ended: &Result<Outcome, ScriptFault>) -> u8
     }
 }
 
-/// Reports the number of lines that `couch_replicate` does not print, and the number of the first such line.
+/// Reports how many input lines are not output of `couch_replicate`, and the number of the first such line.
 fn tell_unknown(rt: &impl Eprint, tally: Tally) {
     let Tally { unknown, first, .. } = tally;
     let _ = eprintln!(rt;
@@ -215,7 +215,8 @@ fn tell_refused(rt: &impl Eprint, run: &Run, why: Refusal, at: u64) -> u8
     3
 }
 
-/// Reports that a member of an envelope follows an attachment that was already written, and returns the exit status.
+/// Reports that a member `_id`, `_rev`, `_revisions` or `_deleted` of a long document follows an attachment. Returns
+/// the exit status.
 fn tell_late(rt: &impl Eprint, at: u64) -> u8
     ensures { result ≡ 3 }
 {

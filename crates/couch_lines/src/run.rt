@@ -44,8 +44,8 @@ pub fn run_words<'a, R: ScriptRead, W: ScriptWrite>(
 ) -> Ended
     ensures runs { RunsWords (map string_bytes words.entry.now) (R.left reader.old) (R.left reader.new)
         (W.held writer.old) (W.held writer.new) result }
-    // The clause `took` relates the result and the written bytes to the arguments and the input bytes that the reads
-    // returned. The clause `ended` states that the reads returned the complete input if the run succeeded.
+    // The clause `took` describes the result and the output for the arguments and the input bytes that were read. By
+    // the clause `ended`, a successful run has read the complete input.
     ensures took { (input : List ℕ) × Appends (R.taken reader.old) (R.taken reader.new) input
         × RunsWords (map string_bytes words.entry.now) (Some input) (Some []) (W.held writer.old)
         (W.held writer.new) result }

@@ -23,7 +23,7 @@ pub enum Task {
     /// The task `Leaves(db)` writes a `doc` line for each leaf in the `change` lines of a script's output.
     Leaves(String),
     /// The task `Bulk(n, whole)` writes bodies of `_bulk_docs` with at most `n` documents each. If `whole` is true, the
-    /// task unwraps the documents from envelopes.
+    /// task takes each document out of its envelope.
     Bulk(u64, bool),
     /// The task `Trees(db, svg)` draws the output of a script, as SVG if `svg` is true and otherwise as text. If
     /// `Trees` draws as text and `db` is a database name, the output also has the commands that resolve the database's
@@ -99,11 +99,13 @@ fn named_by(word: &str) -> Option<Named>
     }
 }
 
-/// Builds a task from the task's name, an optional argument, an optional surplus argument, and two flags.
+/// Builds a task from the task's name `word`, the optional argument `second`, and two flags. The argument `third` is a
+/// surplus argument, if there is one.
 ///
 /// # Errors
 ///
 /// The call returns `Unknown` if no task has the given name, and `Wrong` if the task does not take the given arguments.
+/// The call returns `Memory` if an allocation failed.
 pub fn task_of(
     alloc: Global,
     word: Option<&str>,

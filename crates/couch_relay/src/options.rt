@@ -55,7 +55,7 @@ pub(crate) struct Options<'a> {
 pub(crate) enum NoOptions {
     /// `clap`'s error. A request for help is also an error of `clap`.
     Words(Error),
-    /// The value of an option is not a number, although `clap` has already checked that the value is a number.
+    /// The value of a numeric option is not a number. The earlier check by `clap` should prevent this error.
     NoNumber,
     /// An allocation failed.
     Memory,

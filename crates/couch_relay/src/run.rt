@@ -212,7 +212,7 @@ fn choice_of<R: ScriptRead>(
 ///
 /// Returns `Read` if the reader failed, or after 2^64 - 1 requests. Returns `Write` if the writer failed. Returns
 /// `Memory` if an allocation failed. After an error, the output is empty, or has the requests of all complete exchanges
-/// (pairs of a request and a response) and then a prefix of one more request.
+/// and a prefix of one more request. An exchange is a request with its response.
 pub(crate) fn run<R: ScriptRead, W: ScriptWrite>(
     alloc: Global,
     options: &Options<'_>,

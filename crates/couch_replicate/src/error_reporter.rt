@@ -101,9 +101,9 @@ impl<'a, H: Eprint + Clock> ErrorReporter<'a, H> {
         }
     }
 
-    /// If the reporter explains errors (`explains`), warns about options with invalid values (docs/PROFILE.md,
-    /// "Limits"). If an option has an invalid value, each `replicate` or `sync` line that does not override the value
-    /// fails.
+    /// Warns about options with invalid values (docs/PROFILE.md, "Limits"), if the reporter explains errors
+    /// (`explains`). If an option has an invalid value, each `replicate` or `sync` line that does not override the
+    /// value fails.
     pub(crate) fn warn(&self, settings: &Settings) {
         if !self.explains {
             return;

@@ -19,7 +19,7 @@ use std::thread::Threads;
 /// Runs the program. Returns the exit status, which is 0 on success, 1 if a line failed, 2 for a usage error, and 3 if
 /// reading, writing or an allocation failed.
 ///
-/// `is_watched` says whether standard error is a terminal, which the option `--progress` requires.
+/// The program shows progress only if the option `--progress` is given and standard error is a terminal (`is_watched`).
 pub fn run_program<H>(rt: &H, is_watched: bool) -> u8
 where
     H: AllocGlobal + Env + Input + Print + Eprint + Clock + Threads + Wait + Sync,

@@ -14,7 +14,7 @@ use std::thread::Threads;
 /// How a run ended.
 #[derive(Drop)]
 pub enum Ended {
-    /// No script was run, because the arguments give no settings.
+    /// No script was run, because no settings could be read from the arguments.
     NotRun(NoSettings),
     /// A script was run. The value in `Ok` is true if no line failed. The value in `Err` is the fault that stopped the
     /// script early.

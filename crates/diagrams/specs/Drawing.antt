@@ -55,13 +55,13 @@ pub record Holds (d : Document) (id : List ℕ) (leaves : List State) : Type 0 w
   pub named : string_bytes d.id ≡ id
   pub read : states d ≡ leaves
 
--- Says which document is incomplete after a line of a script's output. Also says which item the line completes: a
--- document, a comparison, a row of numbers or a log.
+-- Says which document is incomplete after a line of a script's output. The relation also says which item the line
+-- completes: a document, a comparison, a row of numbers or a log.
 pub data IsNext : Option Document → Told → Option Document → Option Whole → Type 0 where
   -- A line of a script's output that begins a document.
   opened : {old : Option Document} {id : String Global} {count : ℕ} {d : Document} → Holds d (string_bytes id) [] → d.count ≡ count
       → IsNext old (told.Document id count) (Some d) None
-  -- A line of a script's output with a leaf of an incomplete document, if the leaf is not the document's last leaf.
+  -- A line of a script's output that prints a leaf of an incomplete document, but not the document's last leaf.
   more : {d e : Document} {live : Bool} {revs : Vec RevId Global} (r : RevId) → head_of revs.items ≡ Some r
       → Holds e (string_bytes d.id) (with_leaf (states d) r live) → e.count ≡ d.count → vec_len e.leaves < e.count
       → IsNext (Some d) (told.Leaf live revs) (Some e) None
@@ -129,7 +129,7 @@ pub record Takes (old : Sketch) (line : List ℕ) (new : Sketch) (text : List �
   pub tally : new.tally ≡ with_told old.tally told
 
 -- The result of processing a line of a script's output: the drawing of the item that the line completes, or an error.
--- If an allocation fails, no document is incomplete afterwards, and the processed line is counted as a line that
+-- If an allocation fails, any incomplete document is dropped, and the processed line is counted as a line that
 -- `couch_replicate` can print.
 abbrev pub Pictures : Answering Sketch (List ℕ)
 Pictures old line (Ok text) new = Takes old line new text

@@ -105,8 +105,8 @@ pub data Sign : Type 0 where
   -- The start time of a session in a picture of a replication log.
   moment : Form → List ℕ → Sign
   -- A session's bar in a picture of a replication log. The first two numbers of `chart` are the numbers of documents
-  -- that the session wrote and read. The last number of `chart` is the greatest number of documents that one session of
-  -- the log read, but at least 1.
+  -- that the session wrote and read. The last number of `chart` is the greatest number of documents read by any session
+  -- of the log, or 1 if this number is 0.
   chart : Form → ℕ → ℕ → ℕ → Sign
 
 abbrev pub leaf_ink : Form → RevId → Bool → Bool → List ℕ
@@ -213,8 +213,8 @@ ink_of (whole r) = rev_text r
 ink_of (short r) = short_text r
 ink_of (sign s) = sign_ink s
 
--- A list with the piece's `Sign` (an item that a picture must show), or the empty list for markup, a number or an
--- ancestor.
+-- The item (`Sign`) that a piece of a picture shows, as a list of one item. If the piece is markup, a number or an
+-- ancestor, the list is empty.
 abbrev pub sign_in : Piece → List Sign
 sign_in (mark m) = []
 sign_in (number n) = []
@@ -223,7 +223,7 @@ sign_in (short r) = []
 sign_in (sign s) = s ∷ []
 
 -- The text `new` is the text `old`, followed by pieces of a picture such as markup, numbers, ancestors and leaves. The
--- added pieces show the items (`Sign`, such as a document id or a leaf) of the list `signs`, in the same order.
+-- list `signs` has the items that the added pieces show, such as document ids and leaves, in the order of the pieces.
 pub record Draws (old new : List ℕ) (signs : List Sign) : Type 0 where
   pub pieces : List Piece
   pub ink : new ≡ old ++ flat_map ink_of pieces
@@ -234,7 +234,8 @@ pub record Draws (old new : List ℕ) (signs : List Sign) : Type 0 where
 abbrev pub leaf_sign : Form → Leaf → Sign
 leaf_sign form l = leaf form l.rev l.wins l.live
 
--- A list with the command that would delete leaf l of document `id` in `db`, or the empty list if l is deleted or wins.
+-- A list of one command, which would delete leaf l of document `id` in the database `db`. The list is empty if l is
+-- deleted or is the winner.
 abbrev pub edit_of : List ℕ → List ℕ → Leaf → List Sign
 edit_of db id l = if not l.wins && l.live then edit db id l.rev ∷ [] else []
 

@@ -36,7 +36,7 @@ struct Start {
 #[derive(Drop)]
 pub struct Ancestries {
     branches: Vec<Branch>,
-    /// A map from a branch's parent and first revision to the index of the branch, for all branches except the first.
+    /// The index of each branch except the first. The key is the branch's parent and its first revision.
     starts: Option<Box<IndexMap<Start, usize>>>,
 }
 
@@ -51,7 +51,7 @@ struct Climb {
 }
 
 impl Climb {
-    /// One more than the index of the branch of the revision `at`, or 0 if `at` is `None`.
+    /// Returns the index of the branch that has the revision `at`, plus 1. Returns 0 if `at` is `None`.
     fn height(&self) -> usize {
         match self.at {
             Some(point) => point.branch.saturating_add(1),
@@ -59,7 +59,7 @@ impl Climb {
         }
     }
 
-    /// The index of the branch of the revision `at`, or 0 if `at` is `None`.
+    /// Returns the index of the branch that has the revision `at`, or 0 if `at` is `None`.
     fn branch(&self) -> usize {
         match self.at {
             Some(point) => point.branch,
@@ -67,7 +67,7 @@ impl Climb {
         }
     }
 
-    /// The position of the revision `at` in its branch, counted from 1, or 0 if `at` is `None`.
+    /// Returns the position of the revision `at` in its branch, counted from 1, or 0 if `at` is `None`.
     fn count(&self) -> usize {
         match self.at {
             Some(point) => point.count,
@@ -98,8 +98,8 @@ impl Ancestries {
         Ok(at)
     }
 
-    /// Returns the position of the revision `rev`, if `rev` directly follows the revision at the position `at` in a
-    /// stored ancestry. If `at` is `None`, the call looks for a stored ancestry whose oldest revision is `rev`.
+    /// Looks for a stored revision `rev` whose parent is at the position `at`, and returns the position of `rev`. If
+    /// `at` is `None`, the call looks for a stored ancestry with the oldest revision `rev`.
     fn after(&self, at: Option<Point>, rev: &Rev) -> Option<Point> {
         let (branch, count) = match at {
             Some(point) => (point.branch, point.count),
@@ -116,8 +116,8 @@ impl Ancestries {
         self.start_at(at, rev)
     }
 
-    /// Returns the position of the revision `rev`, if `starts` has a branch with the parent `from` and the first
-    /// revision `rev`.
+    /// Looks in `starts` for the branch with the parent `from` and the first revision `rev`, and returns the position
+    /// of `rev`.
     fn start_at(&self, from: Option<Point>, rev: &Rev) -> Option<Point> {
         let starts = self.starts.as_ref()?;
         let branch = starts.get(&Start { from, rev: *rev })?;
@@ -162,7 +162,8 @@ impl Ancestries {
         }
     }
 
-    /// Returns the revision of the given generation in the ancestry that ends at the position `last`.
+    /// Returns the revision with the given generation from an ancestry. The newest revision of the ancestry is at the
+    /// position `last`.
     pub fn ancestor(&self, last: Option<Point>, generation: u32) -> Option<&Rev> {
         let mut next = last;
         for _ in 0..self.branches.len() {
@@ -188,8 +189,8 @@ impl Ancestries {
         }
     }
 
-    /// Returns the number of revisions that two ancestries share, beginning with the oldest revision. The ancestry that
-    /// was passed to the first call of `Ancestries::add` must contain the revision `one` or the revision `other`.
+    /// Returns the number of revisions that two ancestries share, beginning with the oldest revision. The revision
+    /// `one` or the revision `other` must be in the ancestry that was added first.
     pub fn shared(&self, one: Option<Point>, other: Option<Point>) -> usize {
         let (one, other) = self.fork(one, other);
         one.count().min(other.count())
@@ -218,9 +219,9 @@ impl Ancestries {
         self.next(one, count).cmp(&self.next(other, count))
     }
 
-    /// Follows two ancestries from newer to older revisions, until both are in the same branch (a list of consecutive
-    /// revisions) or both have ended. Of two traversals in different branches, the call continues the traversal in the
-    /// branch that was stored later. A branch is always stored after the branch from which it branches off.
+    /// Traverses two ancestries from newer to older revisions, until both traversals are in one branch or both have
+    /// ended. While the branches differ, the call continues the traversal whose branch was stored later. A branch is
+    /// always stored after the branch that has its parent.
     fn fork(&self, one: Option<Point>, other: Option<Point>) -> (Climb, Climb) {
         let mut one = Climb {
             at: one,
@@ -243,7 +244,7 @@ impl Ancestries {
         (one, other)
     }
 
-    /// Skips the older revisions of the branch that the traversal `climb` has reached, and returns the traversal at the
+    /// Moves the traversal `climb` out of its current branch, and returns the traversal. The traversal is then at the
     /// parent of the branch's first revision.
     fn climbed(&self, climb: Climb) -> Climb {
         match climb.at {
@@ -255,8 +256,8 @@ impl Ancestries {
         }
     }
 
-    /// Returns the next newer revision in the ancestry of the traversal `climb`, after the first `count` revisions of
-    /// the branch that `climb` has reached.
+    /// Returns the revision after the first `count` revisions of the branch that `climb` has reached. The returned
+    /// revision is in this branch, or is the first revision of the branch that `climb` has left last.
     fn next(&self, climb: Climb, count: usize) -> Option<&Rev> {
         if climb.count() > count {
             return self.rev_at(climb.branch(), count);

@@ -1,6 +1,6 @@
 //! Computes the columns of a diagram of a revision tree. Each leaf of the revision tree has a row in the diagram. Each
-//! generation at which a leaf's row begins, ends or forks has its own column in the diagram. Other generations of a
-//! revision tree share one column of the diagram if they are consecutive.
+//! generation at which a leaf's row begins, ends or forks has its own column in the diagram. Consecutive generations at
+//! which no row begins, ends or forks share one column.
 
 use crate::ancestries::Ancestries;
 use crate::document::Leaf;
@@ -56,8 +56,8 @@ pub fn start_of(leaf: &Leaf, row: &Row) -> u32 {
     row.hang + 1
 }
 
-/// Builds a column for each generation in the list `kept`, and one column for all generations between two neighbouring
-/// generations of the list.
+/// Builds one column for each generation in the list `kept`, and one column for each gap between neighbours in the
+/// list.
 fn cells_of(alloc: Global, kept: &[u32]) -> Result<Vec<Cell>, AllocError> {
     let mut cells = Vec::new(alloc);
     let mut next = kept.first().copied().unwrap_or(0);
@@ -99,8 +99,7 @@ pub fn folded(low: u32, high: u32) -> u64 {
     u64::from(high).saturating_sub(u64::from(low)) + 1
 }
 
-/// Returns the length of the text with which a diagram's column represents `count` generations, for example `12 more`
-/// for 12 generations.
+/// Returns the length of a column's text for `count` generations. For 12 generations, the text is `12 more`.
 pub fn folded_len(count: u64) -> usize {
     digits(count) + 5
 }

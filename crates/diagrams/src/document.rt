@@ -10,8 +10,8 @@ use std::cmp::Ordering;
 /// A leaf of a document.
 #[derive(Debug, Drop)]
 pub struct Leaf {
-    /// The sort key of the leaf. The sort key of the winner is 0. A losing leaf's sort key is `usize::MAX` minus the
-    /// number of revisions that the leaf's ancestry shares with the winner's ancestry.
+    /// The sort key of the leaf. The sort key of the winner is 0. If a losing leaf shares n ancestors with the winner,
+    /// its sort key is `usize::MAX` - n.
     pub apart: usize,
     /// The leaf's parent, if the parent is known. In the leaf's ancestry, each revision's generation is one above the
     /// generation of its parent.
@@ -54,8 +54,8 @@ pub struct Document {
     pub id: String,
     /// The number of leaves.
     pub count: u64,
-    /// Those leaves of the document that the parser has read so far. Before `sort`, the leaves are in the order of
-    /// reading, winner first. After `sort`, the leaves are in the order in which a picture shows them (`order_of`).
+    /// The leaves of the document that have been read so far. Before `sort`, the leaves are in the order of reading,
+    /// winner first. After `sort`, the leaves are in the order in which a picture shows them (`order_of`).
     pub leaves: Vec<Leaf>,
     /// The known ancestries of the leaves.
     pub ancestries: Ancestries,

@@ -58,8 +58,8 @@ impl Serve for Drawer<'_> {
 }
 
 impl Drawer<'_> {
-    /// Reads and counts a line of a script's output, and draws the document, comparison, row of numbers or log that the
-    /// line completes. If an allocation fails, the call drops the document whose lines are being read.
+    /// Reads and counts a line of a script's output. If the line completes an item (`Whole`), the call draws the item.
+    /// If an allocation fails, the call drops the document whose lines are being read.
     fn take_in(&mut self, line: &[u8], answer: &mut Vec<u8>) -> Result<(), AllocError>
         requires { answer.old.items ≡ [] }
         ensures ok { OnOk result (Takes (sketch_of self.old.form self.old.db self.old.begun self.old.tally) line.now
@@ -119,7 +119,7 @@ impl Drawer<'_> {
         Ok(())
     }
 
-    /// Draws a line of numbers (from `info` or of a session).
+    /// Draws a line of numbers: the totals of `compare`, the numbers of `info`, or the numbers of a session.
     fn draw_row(&mut self, row: &Row, answer: &mut Vec<u8>) -> Result<(), AllocError>
         ensures draws { OnOk result (Draws answer.old.items answer.new.items (signs_of_row self.old.form
             row.now.table (string_bytes row.now.name) row.now.numbers.items)) }
@@ -194,9 +194,8 @@ impl Drawer<'_> {
 /// - `Write`: the writer failed during the call of `draw_answers`.
 /// - `Memory`: an allocation failed while no line was being drawn, for example for the end of the picture.
 ///
-/// If the call returns an error, the writer got a prefix of the picture. Unless a write failed, the written prefix of
-/// the picture ends after the drawing for a line. The contract also allows the error `Cut`, after which the written
-/// prefix ends inside a drawing.
+/// If the call returns an error, the writer got a prefix of the picture. After `Read` or `Memory`, each drawing in this
+/// prefix is complete. The contract also permits the error `Cut`. After `Cut`, the prefix ends inside a drawing.
 pub fn draw_answers<R: ScriptRead, W: ScriptWrite>(
     alloc: Global,
     form: Form,
@@ -207,8 +206,8 @@ pub fn draw_answers<R: ScriptRead, W: ScriptWrite>(
     ensures pictured { PicturedBy result form (option_map (λ s. s.now) db.entry)
         (R.left reader.old) (W.held writer.old) (W.held writer.new) }
     ensures end { OnOk result (IsAtEnd (R.left reader.new)) }
-    // The clause `took` relates the written picture to the bytes that the reads returned. If the call succeeds, the
-    // reads returned the complete input.
+    // The clause `took` says that the written text is a picture of the bytes that the reads returned. After an error,
+    // the text is a prefix of this picture. If the call succeeds, the reads returned the complete input.
     ensures took { (input : List ℕ) × Appends (R.taken reader.old) (R.taken reader.new) input
         × PicturedBy result form (option_map (λ s. s.now) db.entry) (Some input) (W.held writer.old) (W.held writer.new) }
     ensures ended { OnOk result (R.ended reader.new) }

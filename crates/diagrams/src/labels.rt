@@ -14,8 +14,8 @@ pub fn label_text(wins: bool, live: bool) -> &'static str
     }
 }
 
-/// Returns the SVG markup of a leaf's shape. In an SVG picture, the markup of a leaf's shape is between the leaf's full
-/// revision id and the leaf's short revision id.
+/// Returns the SVG markup of a leaf's shape. A leaf's SVG markup has the full revision id, the shape and the short
+/// revision id, in this order.
 pub fn shape_text(wins: bool, live: bool) -> &'static str
     ensures { result.now ≡ shape_text wins live }
 {

@@ -1,5 +1,4 @@
-//! Adds two kinds of output lines to a picture: findings of `compare`, and rows of numbers that `compare`, `info` or
-//! `replicate` prints.
+//! Draws the findings of `compare`, and the lines of numbers that `compare`, `info` or `replicate` prints.
 
 ghost use Rattle.std.specs.Prelude.{◌≡◌, ◌≤◌, ◌++◌, ◌∷◌, [], OnOk, get_or, map, string_bytes};
 ghost use Rattle.diagrams.specs.declared.form.Form.TheVariants.{Svg, Text};
@@ -39,7 +38,8 @@ fn draw_listed(out: &mut Vec<u8>, revs: &[Rev]) -> Result<(), AllocError>
     Ok(())
 }
 
-/// Draws a line of numbers (from `info` or of a session). In an SVG picture, the call draws the line at a given height.
+/// Draws a line of numbers: the totals of `compare`, the numbers of `info`, or the numbers of a session. In an SVG
+/// picture, the call draws the line at a given height.
 pub fn draw_numbers(out: &mut Vec<u8>, form: Form, height: u64, row: &Row) -> Result<(), AllocError>
     ensures { OnOk result (Draws out.old.items out.new.items
         (signs_of_row form row.now.table (string_bytes row.now.name) row.now.numbers.items)) }
@@ -130,7 +130,7 @@ pub fn begin(out: &mut Vec<u8>, form: Form, height: u64, behind: Markup) -> Resu
     mark(out, behind)
 }
 
-/// Appends the markup between the heading and the numbers in a picture's row for `compare`, `info` or a session.
+/// Appends the markup between the heading and the numbers of a line of numbers.
 fn between(out: &mut Vec<u8>, form: Form) -> Result<(), AllocError>
     ensures { OnOk result (Draws out.old.items out.new.items []) }
 {
@@ -140,7 +140,7 @@ fn between(out: &mut Vec<u8>, form: Form) -> Result<(), AllocError>
     }
 }
 
-/// Appends the markup after the last number in a picture's row for `compare`, `info` or a session.
+/// Appends the markup after the last number of a line of numbers.
 fn behind_numbers(out: &mut Vec<u8>, form: Form) -> Result<(), AllocError>
     ensures { OnOk result (Draws out.old.items out.new.items []) }
 {
@@ -150,7 +150,7 @@ fn behind_numbers(out: &mut Vec<u8>, form: Form) -> Result<(), AllocError>
     }
 }
 
-/// Draws the end of a line of numbers (a picture's line with the numbers of `compare`, `info` or a session).
+/// Appends the end of a line of numbers.
 fn end(out: &mut Vec<u8>, form: Form) -> Result<(), AllocError>
     ensures { OnOk result (Draws out.old.items out.new.items []) }
 {
@@ -160,7 +160,8 @@ fn end(out: &mut Vec<u8>, form: Form) -> Result<(), AllocError>
     }
 }
 
-/// Appends the end of a picture's line that shows a finding of `compare`, the id of a replication log, or a session.
+/// Appends the end of a line in the picture. The line shows a finding of `compare`, the id of a log, or a session of a
+/// log.
 pub fn end_line(out: &mut Vec<u8>, form: Form) -> Result<(), AllocError>
     ensures { OnOk result (Draws out.old.items out.new.items []) }
 {
@@ -189,8 +190,8 @@ fn put_listed(out: &mut Vec<u8>, rev: &Rev) -> Result<(), AllocError>
     push_short(out, rev)
 }
 
-/// Appends a heading to a picture: the name of the table `table`, such as `database`, and then the text `name`, such as
-/// the database's name.
+/// Appends a heading to a picture. The heading has the kind of the table, such as `database`, and then the text `name`,
+/// such as the database's name.
 pub fn put_heading(
     out: &mut Vec<u8>,
     form: Form,
@@ -299,7 +300,7 @@ fn put_ratio(out: &mut Vec<u8>, part: u64, whole: u64) -> Result<(), AllocError>
     put_number(out, whole)
 }
 
-/// Returns the length that a part of a total has on a bar of length 400.
+/// Returns the filled length of a bar of length 400 that shows a part of a total.
 pub fn share(part: u64, whole: u64) -> u64
     ensures share { result ≡ share part whole }
     ensures most { result ≤ 400 }

@@ -25,7 +25,7 @@ pub enum Markup {
     Branch,
     /// The character `└` of a text picture, which draws an edge from the row above to the next revision.
     Corner,
-    /// The end of a text such as `12 more`, with which one column of a picture represents 12 consecutive generations.
+    /// The text ` more` of a column such as `12 more`. This column represents 12 consecutive generations.
     More,
     /// The start of an SVG picture.
     Head,
@@ -52,7 +52,7 @@ pub enum Markup {
     /// The markup between the full id and the short id of an ancestor.
     Ancestor,
     Folded,
-    /// The SVG markup for a position of a row at which the revision is unknown.
+    /// The SVG markup for an unknown revision in a row.
     NodeNone,
     /// The markup after the short id of a revision.
     NodeEnd,

@@ -23,8 +23,8 @@ pub enum Whole {
     Log(Log),
 }
 
-/// Processes the line `told` of a script's output. Returns the document that is incomplete after the line, if there is
-/// one, and the item that the line completes, if there is one.
+/// Processes the line `told` of a script's output. Returns two optional values: the document that is still incomplete
+/// after the line, and the item that the line completes.
 pub fn next(
     alloc: Global,
     begun: Option<Document>,
@@ -50,9 +50,9 @@ pub fn next(
     }
 }
 
-/// Adds the leaf of a `leaf` line to the document. Returns the document as incomplete if further `leaf` lines must
-/// follow, and otherwise as a complete item. If the `leaf` line has no revisions, the call drops the document, and
-/// returns `(None, None)`.
+/// Adds the leaf of a `leaf` line to the document. If further `leaf` lines must follow, the call returns the incomplete
+/// document. If all leaves have been read, the call returns the document as a complete item. If the `leaf` line has no
+/// revisions, the call drops the document, and returns `(None, None)`.
 fn read_leaf(
     alloc: Global,
     mut document: Document,

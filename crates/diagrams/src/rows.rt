@@ -10,30 +10,28 @@ use std::alloc::{AllocError, Global};
 /// The row of a leaf in a drawing.
 #[derive(Drop)]
 pub struct Row {
-    /// The generation at which the leaf's row branches off an earlier row of the drawing, or 0 if the leaf's row does
-    /// not branch off.
+    /// The generation at which this row branches off an earlier row, or 0 if this row does not branch off.
     pub hang: u32,
-    /// The index of the drawing's row that shows the revision from which the leaf's row branches off.
+    /// The index of the row from which this row branches off, or 0 if this row does not branch off.
     pub parent: usize,
     /// The generation of the leaf's oldest known ancestor.
     pub first: u32,
-    /// The generations, in rising order, at which a vertical edge of the drawing leads from the leaf's row to the next
-    /// row. The vertical edges below a row start in this row or in an earlier row, and lead to later rows.
+    /// The generations at which a vertical edge leads from this row to the next row, in rising order. A vertical edge
+    /// below a row comes from this row or an earlier row, and leads to a later row.
     pub below: Vec<u32>,
 }
 
-/// A row from which the row of a later leaf may branch off.
+/// A row from which a later row may branch off.
 #[derive(Drop)]
 struct Branch {
-    /// The generation at which a leaf's row branches off an earlier row of the drawing, or 0 if the leaf's row does not
-    /// branch off.
+    /// The generation at which the row branches off an earlier row, or 0 if the row does not branch off.
     hang: u32,
-    /// The index of a leaf's row in the drawing.
+    /// The index of the row in the drawing.
     row: usize,
 }
 
 impl Row {
-    /// Whether a vertical edge of the drawing leads from the leaf's row to the next row at the generation `generation`.
+    /// Whether a vertical edge leads from this row to the next row at the given generation.
     pub fn is_open(&self, generation: u32) -> bool {
         self.below.contains(&generation)
     }
@@ -68,9 +66,8 @@ pub fn rows_of(
     Ok(rows)
 }
 
-/// Returns the index of the last row of a drawing that shows a revision of generation `hang`, or 0 if `hang` is 0. The
-/// call removes the rows after the returned index from `branches`, because rows of later leaves never branch off a
-/// removed row.
+/// Returns the index of the last row that shows a revision of generation `hang`. Returns 0 if `hang` is 0. The call
+/// removes the rows after the returned row from `branches`, because no later row branches off a removed row.
 fn parent_of(branches: &mut Vec<Branch>, hang: u32) -> usize {
     for _ in 0..branches.len() {
         match branches.last() {
@@ -82,8 +79,8 @@ fn parent_of(branches: &mut Vec<Branch>, hang: u32) -> usize {
     0
 }
 
-/// Computes the field `below` of each row: the generations at which a vertical edge of the drawing leads from the row
-/// to the next row.
+/// Computes the field `below` of each row, which has the generations of the vertical edges from the row to the next
+/// row.
 fn open_below(alloc: Global, rows: &mut [Row]) -> Result<(), AllocError> {
     let mut open: Vec<u32> = Vec::new(alloc);
     for i in (0..rows.len()).rev() {
@@ -93,8 +90,8 @@ fn open_below(alloc: Global, rows: &mut [Row]) -> Result<(), AllocError> {
     Ok(())
 }
 
-/// Changes the list `open` from the value of `Row::below` for row i of a drawing to the value for row i - 1. The
-/// argument `hang` is the generation at which row i branches off an earlier row, or 0 if row i does not branch off.
+/// Updates the list `open` for the preceding row. The list has the value of `Row::below` for row i, and gets the value
+/// for row i - 1. The argument `hang` is the value of `Row::hang` for row i.
 fn close(open: &mut Vec<u32>, hang: u32) -> Result<(), AllocError> {
     open.retain(|generation| *generation < hang);
     if hang > 0 {

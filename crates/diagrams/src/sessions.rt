@@ -128,8 +128,8 @@ fn put_moment(out: &mut Vec<u8>, form: Form, begun: &str) -> Result<(), AllocErr
     put_text(out, form, begun)
 }
 
-/// Draws a bar for the numbers of documents that a session read and wrote, scaled by the largest number that a session
-/// of the log read.
+/// Draws a bar for the numbers of documents that a session read and wrote. The full length of the bar represents the
+/// largest number of documents that a session of the log read.
 fn put_chart(
     out: &mut Vec<u8>,
     form: Form,

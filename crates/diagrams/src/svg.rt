@@ -148,9 +148,9 @@ fn draw_cells(
     Ok(())
 }
 
-/// Draws one column of a leaf's row in an SVG picture: the edge from the left, and an ancestor or the number of hidden
-/// generations. In the leaf's own column, the call draws only the edge to the leaf. If a column is left of the row's
-/// start or right of the leaf, the call draws nothing.
+/// Draws one column of a leaf's row in an SVG picture. The call draws the edge from the left, and then an ancestor or
+/// the number of hidden generations. In the leaf's own column, the call draws only the edge to the leaf. If a column is
+/// left of the row's start or right of the leaf, the call draws nothing.
 fn draw_column(
     out: &mut Vec<u8>,
     cell: &Cell,
@@ -172,9 +172,9 @@ fn draw_column(
     Ok(())
 }
 
-/// Draws the edge from the previous column to the column whose first generation is `low`, in the row at index `place`.
-/// If this row branches off an earlier row at the previous column's generation, the edge starts in the earlier row.
-/// Draws nothing if the column is the first column, or the start of a row that does not branch off.
+/// Draws the edge from the previous column to the column that begins at generation `low`. The edge ends in the row at
+/// index `place`. If this row branches off an earlier row in the previous column, the edge starts in the earlier row.
+/// Draws nothing in the picture's first column, and in the first column of a row that does not branch off.
 fn draw_edge(
     out: &mut Vec<u8>,
     low: u32,

@@ -16,7 +16,7 @@ pub struct Tally {
     pub first: u64,
 }
 
-/// The result of a drawing that did not stop early.
+/// The result of drawing an input to its end.
 #[derive(Clone, Copy, Debug, PartialEq, Eq)]
 pub struct Outcome {
     /// Whether memory was sufficient for every line of the input.
@@ -26,7 +26,7 @@ pub struct Outcome {
 }
 
 impl Tally {
-    /// Returns the input's line counts after one more line that can be output of `couch_replicate`.
+    /// Returns the line counts after one more line that `couch_replicate` can print.
     pub fn with_line(self) -> Tally
         ensures { result ≡ with_line self }
     {
@@ -37,7 +37,7 @@ impl Tally {
         }
     }
 
-    /// Returns the input's line counts after one more line with the contents `told`.
+    /// Returns the line counts after one more line, which has the contents `told`.
     pub fn with_told(self, told: &Told) -> Tally
         ensures { result ≡ with_told self told.now }
     {
@@ -47,7 +47,7 @@ impl Tally {
         }
     }
 
-    /// Returns the input's line counts after one more line that cannot be output of `couch_replicate`.
+    /// Returns the line counts after one more line that `couch_replicate` cannot print.
     fn with_unknown(self) -> Tally
         ensures { result ≡ with_unknown self }
     {

@@ -110,9 +110,9 @@ fn draw_cells(
     Ok(())
 }
 
-/// Draws one column of a leaf's row in a text picture: an edge or blanks, and then an ancestor, a number of generations
-/// or blanks. In the leaf's own column, the call draws only the edge to the leaf. If a column is right of the leaf, the
-/// call draws nothing.
+/// Draws one column of a leaf's row in a text picture. The column begins with an edge or blanks, and then has an
+/// ancestor, a number of generations or blanks. In the leaf's own column, the call draws only the edge to the leaf. If
+/// a column is right of the leaf, the call draws nothing.
 fn draw_column(
     out: &mut Vec<u8>,
     cell: &Cell,
@@ -133,8 +133,7 @@ fn draw_column(
     Ok(())
 }
 
-/// Appends the edge (or blanks) between a column of a leaf's row and the column on its left, unless the column is the
-/// first.
+/// Appends the edge or the blanks to the left of a column, unless the column is the first.
 fn draw_edge(
     out: &mut Vec<u8>,
     cell: &Cell,
@@ -150,8 +149,7 @@ fn draw_edge(
     mark(out, edge_of(leaf, row, cell.low))
 }
 
-/// Returns the characters that a leaf's row has to the left of the column of generation `low`: an edge, a branch or
-/// blanks.
+/// Returns the characters to the left of the column that begins at generation `low`: an edge, a branch or blanks.
 fn edge_of(leaf: &Leaf, row: &Row, low: u32) -> Markup {
     let before = low.saturating_sub(1);
     let open = row.is_open(before);

@@ -7,8 +7,8 @@ use Rattle.doc_envelope.specs.Members.{is_blank, joined, object_of}
 use Rattle.doc_envelope.specs.Names.{has_name, value_of}
 use Rattle.doc_envelope.specs.Envelopes.{whole_name, stays, goes, string_of}
 
--- The byte b is plain within `nesting` brackets: it is not a quotation mark or a bracket, and not a comma if `nesting`
--- is 0.
+-- The byte b is not a quotation mark or a bracket. If no bracket is open before b (`nesting` is 0), b is not a comma
+-- either.
 pub record IsByte (nesting b : ℕ) : Type 0 where
   pub comma : (nesting == 0 && b == 44) ≡ false
   pub quote : (b == 34) ≡ false
@@ -16,7 +16,7 @@ pub record IsByte (nesting b : ℕ) : Type 0 where
   pub closes : (b == 125 || b == 93) ≡ false
 
 -- A text in which all strings are closed and all brackets are paired. At the start of the text, n brackets are open. If
--- no bracket is open before the text (n is 0), each comma of the text is in a string or in brackets.
+-- n is 0, each comma of the text is inside a string, or inside brackets of the text.
 pub data Paired : ℕ → List ℕ → Type 0 where
   nothing : {n : ℕ} → Paired n []
   byte : {n b : ℕ} {t : List ℕ} → IsByte n b → Paired n t → Paired n (b ∷ t)

@@ -50,8 +50,7 @@ pub data AreIds : List ℕ → Type 0 where
   last_id : {s : List ℕ} → IsUtf8 s → AreIds (quoted s ++ 93 ∷ 125 ∷ [])
   more_ids : {s t : List ℕ} → IsUtf8 s → AreIds t → AreIds (quoted s ++ 44 ∷ t)
 
--- The text t consists of a number, a comma, the member `ids` with a list of strings, and the bracket that closes the
--- object.
+-- The text t is a number, a comma, a member `ids` whose value is a list of strings, and a closing brace, in this order.
 pub record IsStarted (t : List ℕ) : Type 0 where
   pub digits : List ℕ
   pub ids : List ℕ

@@ -6,8 +6,8 @@ use Rattle.doc_envelope.specs.Names.{has_name}
 use Rattle.doc_envelope.specs.Steps.{texts_with, helds_by}
 use Rattle.doc_envelope.specs.Streams.{Front, MayStream, Opens, mode_after}
 
--- The opening brace of an envelope, and those members of the partial document s that the envelope does not put into the
--- member `whole`.
+-- The beginning of a document's envelope: an opening brace, and the members of the partial document s that do not go
+-- into the member `whole`.
 abbrev pub made_from : List ℕ → List ℕ
 made_from s = texts_with (123 ∷ []) (members_in Outside 0 [] (drop 1 s))
 
@@ -20,16 +20,16 @@ held_from s = helds_by [] (members_in Outside 0 [] (drop 1 s))
 abbrev pub before_last : List ℕ → List ℕ
 before_last t = take (length t - 1) t
 
--- The beginning s of a document ends inside a string that is in the member `_attachments`.
+-- The text s is the beginning of a document, and ends inside a string in the document's member `_attachments`.
 pub record InAttachments (s : List ℕ) : Type 0 where
   pub member : List ℕ
   pub opens : Opens (drop 1 s) member
   pub quoted : mode_after Outside member ≡ Quoted
   pub named : has_name member (codes "\"_attachments\"") ≡ true
 
--- A run of string bytes (`IsRun`) may follow the beginning s of a document. The output for the beginning s is the text
--- S, which begins an envelope and has at least one complete member. If a document begins with s, its envelope begins
--- with the output S, provided that the envelope stores all later members in the string `whole`.
+-- A run of string bytes (`IsRun`) may follow the beginning s of a document. For the input s, the output is the text S,
+-- which is the beginning of an envelope with at least one complete member. If a document begins with s, and its
+-- envelope puts all later members into the string `whole`, the envelope begins with S.
 pub record IsPutStart (s S : List ℕ) : Type 0 where
   pub may : MayStream s
   pub inside : InAttachments s

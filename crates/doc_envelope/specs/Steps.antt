@@ -9,8 +9,8 @@ use Rattle.doc_envelope.specs.Envelopes.{whole_name, stays, unfolded_member}
 abbrev pub added : List ℕ → List ℕ → List ℕ
 added t m = cond (nat_lt 1 (length t)) (t ++ 44 ∷ m) (t ++ m)
 
--- The content of an envelope's string `whole` after the member m is appended to the earlier content h. A comma precedes
--- m unless h is empty.
+-- The new content of an envelope's string `whole`: the old content h, followed by the member m. If h is not empty, a
+-- comma separates h from m.
 abbrev pub held_with : List ℕ → List ℕ → List ℕ
 held_with h m = cond (length h == 0) (h ++ m) (h ++ 44 ∷ m)
 
@@ -41,7 +41,7 @@ unfoldable pub all_taken : List ℕ → List (List ℕ) → Option (List ℕ)
 all_taken t [] = Some t
 all_taken t (m ∷ ms) = option_and_then (λ u. all_taken u ms) (taken_with t m)
 
--- The text of an envelope without its closing brace. If the text h of the wrapped members is not empty, a member
--- `whole` with the string h as its value is appended to the text t.
+-- The text of an envelope without its closing brace. If h, the text of the wrapped members, is empty, the result is the
+-- text t. If h is not empty, the result is t, followed by a member `whole` with the string h.
 abbrev pub with_held : List ℕ → List ℕ → List ℕ
 with_held t h = cond (length h == 0) t (added t (whole_name ++ 58 ∷ []) ++ quoted h)

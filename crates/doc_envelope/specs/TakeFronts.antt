@@ -9,17 +9,18 @@ use Rattle.doc_envelope.specs.Streams.{Front, MayStream}
 abbrev pub whole_before : List ℕ → List ℕ
 whole_before t = codes "\"whole\":\"" ++ t
 
--- The text q is the beginning of a JSON string, from the opening quotation mark, and has content that is not blank. The
--- text S is the beginning `made` of an object's text, followed by the members in the partial JSON string q.
+-- The text q is a JSON string without its closing quotation mark, and the content of this string is not blank. The text
+-- `made` is the beginning of an object, and S is `made`, followed by the members that the string q contains.
 pub record AppendsOpen (q made S : List ℕ) : Type 0 where
   pub content : List ℕ
   pub says : string_of (q ++ 34 ∷ []) ≡ Some content
   pub filled : is_blank content ≡ false
   pub front : S ≡ added made content
 
--- After the beginning s of an envelope, bytes of a string may be passed on without being stored. The text s ends inside
--- the string that is the value of the envelope's member `whole`. The envelope's members before `whole` give the text
--- `made`, a part of the document. If an envelope begins with the text s, its document begins with the text S.
+-- After the beginning s of an envelope, a program may pass on bytes of a string without storing them. The text s ends
+-- inside the string that is the value of the envelope's member `whole`. The text `made` is the part of the document
+-- that comes from the envelope's members before `whole`. If an envelope begins with the text s, its document begins
+-- with the text S.
 pub record IsTakeStart (s S : List ℕ) : Type 0 where
   pub may : MayStream s
   pub made : List ℕ

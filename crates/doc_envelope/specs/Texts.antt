@@ -22,8 +22,8 @@ pub data EndsString : List ℕ → Type 0 where
   plain : {b : ℕ} {t : List ℕ} → (b == 34) ≡ false → (b == 92) ≡ false → EndsString t → EndsString (b ∷ t)
   escaped : {b : ℕ} {t : List ℕ} → EndsString t → EndsString (92 ∷ b ∷ t)
 
--- The byte b is plain within `nesting` brackets: not white space, a quotation mark or a bracket, and not a comma if
--- `nesting` is 0.
+-- The byte b is not white space, a quotation mark or a bracket. If no bracket is open before b (`nesting` is 0), b is
+-- not a comma either.
 pub record IsPlain (nesting b : ℕ) : Type 0 where
   pub space : is_space b ≡ false
   pub comma : (nesting == 0 && (b == 44 || b == 125)) ≡ false
@@ -31,8 +31,8 @@ pub record IsPlain (nesting b : ℕ) : Type 0 where
   pub opens : (b == 123 || b == 91) ≡ false
   pub closes : (b == 125 || b == 93) ≡ false
 
--- `Closed n t u` says that all strings and brackets of the text t are closed. At most 128 brackets are open at any
--- position in t, including n brackets that were opened before t. The text u is the text t with a blank for each byte of
+-- In the text t, all strings and all brackets are closed. The text t opens a bracket only if fewer than 128 brackets
+-- are open, including the n brackets that were opened before t. The text u is the text t with a blank for each byte of
 -- white space outside of strings.
 pub data Closed : ℕ → List ℕ → List ℕ → Type 0 where
   nothing : {n : ℕ} → Closed n [] []

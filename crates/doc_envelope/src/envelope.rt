@@ -17,7 +17,8 @@ use crate::printing::still_printed;
 use crate::values::{is_envelope, quote, string_of};
 use std::alloc::{AllocError, Global};
 
-/// The name, with its quotation marks, of the member that contains all wrapped members of an envelope in one string.
+/// The name of the member `whole`, with its quotation marks. The string of an envelope's member `whole` contains all
+/// wrapped members.
 const WHOLE: &[u8] = b"\"whole\"";
 
 /// Wraps and unwraps documents, and reuses its buffers.
@@ -28,7 +29,8 @@ pub struct Envelope {
     text: Vec<u8>,
     /// The text of the members that go into the string of the envelope's member `whole`.
     held: Vec<u8>,
-    /// If `printed` is true, the crate `json` would print each member of the envelope, except `whole`, unchanged.
+    /// If `printed` is true, each member of the envelope other than `whole` is exactly as the crate `json` would print
+    /// it.
     printed: bool,
     scratch: JsonScratch,
 }
@@ -82,8 +84,8 @@ impl Envelope {
         is_envelope(self.alloc, self.text.as_slice(), scratch)
     }
 
-    /// Unwraps a document. Returns `false` if the text is not a JSON object, or if the object has a member `whole` that
-    /// is not a string with the text of JSON members.
+    /// Unwraps a document. Returns `false` if the text is not a JSON object, or if the object's member `whole` is not a
+    /// string of JSON members.
     pub fn take(&mut self, document: &[u8]) -> Result<bool, AllocError>
         ensures text { IfOk result (λ ok. unfolded document.now ≡ cond ok (Some (made_of self.new)) None) }
         ensures gives_back { (fs ws os : List (List ℕ)) → HasMembers document.now (fs ++ ws) → AreOthers fs
@@ -115,8 +117,8 @@ impl Envelope {
         self.scratch.is_json(self.alloc, self.text.as_slice())
     }
 
-    /// Whether a text is JSON in UTF-8. The call does not change the text that was built last. To parse, the call uses
-    /// the same `JsonScratch` as `put` and `take`.
+    /// Whether a text is JSON in UTF-8. The call does not change the text that was built last. The call parses with the
+    /// `JsonScratch` that `put` and `take` also use.
     pub fn is_json_text(&mut self, text: &[u8]) -> Result<bool, AllocError>
         ensures value { IfOk result (λ json. json ≡ is_json text.now) }
         ensures same { made_of self.new ≡ made_of self.old }
@@ -154,8 +156,8 @@ impl Envelope {
         Ok(())
     }
 
-    /// Ends the text of an envelope with the member `whole`. Returns `false` if the text of the members in `whole` is
-    /// not UTF-8.
+    /// Ends the text of an envelope with the member `whole`. Returns `false` if the collected text for the member
+    /// `whole` is not UTF-8.
     fn end_fold(&mut self) -> Result<bool, AllocError>
         ensures is { IfOk result (λ ok. ok ≡ is_utf8 (held_of self.old)) }
         ensures made { IfOk result (λ ok. ok ≡ true
@@ -236,8 +238,8 @@ impl Envelope {
         self.held.extend_from_slice(member)
     }
 
-    /// Appends the member `whole` to the envelope, if the text for the string of `whole` is not empty. Returns `false`
-    /// if the text of the members in `whole` is not UTF-8.
+    /// Appends the member `whole` to the envelope, unless the string of `whole` would be empty. Returns `false` if the
+    /// collected text for the member `whole` is not UTF-8.
     fn end_held(&mut self) -> Result<bool, AllocError>
         ensures is { IfOk result (λ ok. ok ≡ is_utf8 (held_of self.old)) }
         ensures made { IfOk result (λ ok. ok ≡ true
@@ -250,9 +252,9 @@ impl Envelope {
         quote(self.alloc, self.held.as_slice(), &mut self.text)
     }
 
-    /// Appends the member `whole` to the envelope, without the quotation mark that closes the string of `whole`. If the
-    /// string would be empty, the call instead removes the last byte of the envelope's text. Returns `false` if the
-    /// text of the members in `whole` is not UTF-8.
+    /// Appends the member `whole` to the envelope, without the closing quotation mark of its string. If the string of
+    /// `whole` would be empty, the call instead removes the last byte of the envelope's text. Returns `false` if the
+    /// collected text for the member `whole` is not UTF-8.
     pub(crate) fn begin_held(&mut self) -> Result<bool, AllocError>
         ensures is { IfOk result (λ ok. ok ≡ is_utf8 (held_of self.old)) }
         ensures made { IfOk result (λ ok. ok ≡ true
@@ -265,9 +267,9 @@ impl Envelope {
         Ok(true)
     }
 
-    /// Appends a member of an envelope to the document's text. If the member's name is `whole`, the call instead
-    /// appends the members in the string of `whole`. Returns `false` if the value of a member `whole` is not a string,
-    /// or is a blank string.
+    /// Appends a member of an envelope to the document's text. For the member `whole`, the call instead appends the
+    /// members in the string of `whole`. Returns `false` if the value of a member `whole` is not a string, or is a
+    /// blank string.
     pub(crate) fn take_member(&mut self, member: &[u8]) -> Result<bool, AllocError>
         ensures { IfOk result (λ ok. taken_with (made_of self.old) member.now
             ≡ cond ok (Some (made_of self.new)) None) }
@@ -282,7 +284,7 @@ impl Envelope {
         Ok(true)
     }
 
-    /// Appends the members in the JSON string `value`, the value of an envelope's member `whole`.
+    /// Appends the members that the JSON string `value` contains. `value` is the value of an envelope's member `whole`.
     pub(crate) fn take_held(&mut self, value: &[u8]) -> Result<bool, AllocError>
         ensures { IfOk result (λ ok. option_map (added (made_of self.old))
             (option_and_then if_any (string_of value.now)) ≡ cond ok (Some (made_of self.new)) None) }
@@ -330,8 +332,8 @@ pub(crate) fn behind_brace(document: &[u8]) -> &[u8]
     }
 }
 
-/// Returns the text after a member of `count` bytes and after the member's comma. Returns an empty text if no comma
-/// follows the member.
+/// Skips a member of `count` bytes and the comma after the member, and returns the rest of the text. Returns an empty
+/// text if no comma follows the member.
 fn behind_comma(text: &[u8], count: usize) -> &[u8]
     requires { count ≤ length text.now }
     ensures value { result.now ≡ behind_comma text.now count }
@@ -351,8 +353,7 @@ fn is_blank(text: &[u8]) -> bool
     text.iter().all(|b| *b == b' ')
 }
 
-/// Whether an envelope stores a member of the document as its own member, instead of in the string of its member
-/// `whole`.
+/// Whether a document's member becomes a member of the envelope, instead of going into the string of `whole`.
 fn stays(member: &[u8]) -> bool
     ensures { result ≡ stays member.now }
 {

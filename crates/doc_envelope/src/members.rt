@@ -45,8 +45,8 @@ fn nesting_behind(nesting: usize, byte: u8) -> usize
     }
 }
 
-/// Returns the position after the byte at position `at`, which is a quotation mark, a control character or a backslash
-/// in a string. If the byte at `at` is a backslash, the call also skips the next byte.
+/// Skips the byte at position `at` in a string, and returns the next position. The byte is a quotation mark, a control
+/// character or a backslash. If the byte at `at` is a backslash, the call also skips the next byte.
 #[inline(always)]
 fn past_byte(text: &[u8], at: usize) -> usize
     requires { at < length text.now }
@@ -61,7 +61,8 @@ fn past_byte(text: &[u8], at: usize) -> usize
     }
 }
 
-/// Returns the position after the closing quotation mark of a string, for a position inside the string.
+/// Finds the end of a string from a position inside the string, and returns the position after the closing quotation
+/// mark.
 #[inline(always)]
 fn string_end(text: &[u8], from: usize) -> usize
     requires { from ≤ length text.now }

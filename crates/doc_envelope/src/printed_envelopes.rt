@@ -7,8 +7,8 @@ use crate::members::split_member;
 use crate::printing::{after, is_printed_member};
 use json_values::plain_end;
 
-/// Returns true only if a text is JSON. The call recognizes only envelopes with the first member `_id`, in the form in
-/// which `Envelope::put` prints envelopes.
+/// Returns true only if a text is JSON. The call recognizes only envelopes in the form that `Envelope::put` prints,
+/// with `_id` as the first member.
 #[inline(never)]
 pub fn is_printed_envelope(text: &[u8]) -> bool
     ensures { result ≡ true → is_json text.now ≡ true }
@@ -41,8 +41,7 @@ fn split_front(text: &[u8]) -> Option<(&[u8], &[u8])>
     }
 }
 
-/// Returns true only if a text consists of a member that an envelope may have, followed by the brace that closes the
-/// envelope.
+/// Returns true only if a text consists of a member that an envelope may have and the envelope's closing brace.
 fn is_last(text: &[u8]) -> bool
     ensures { result ≡ true → EndsEnvelope text.now }
 {
@@ -59,7 +58,8 @@ fn before_brace(text: &[u8]) -> Option<&[u8]>
     text.strip_suffix(b"}")
 }
 
-/// Returns true only if a member is named `whole`, and its value is a string exactly as the crate `json` prints it.
+/// Returns true only if a member is named `whole` and its value is a string in the exact form that the crate `json`
+/// prints.
 fn is_whole(member: &[u8]) -> bool
     ensures { result ≡ true → IsPrintedMember member.now }
 {
@@ -69,7 +69,7 @@ fn is_whole(member: &[u8]) -> bool
     }
 }
 
-/// Returns true only if a value is a string exactly as the crate `json` prints it.
+/// Returns true only if a value is a string in the exact form that the crate `json` prints.
 fn is_quoted(value: &[u8]) -> bool
     ensures { result ≡ true → IsQuoted value.now }
 {
@@ -82,7 +82,7 @@ fn is_quoted(value: &[u8]) -> bool
     }
 }
 
-/// Returns true only if a text is what the crate `json` prints for a string, without the opening quotation mark. The
+/// Returns true only if a text is a string as the crate `json` prints it, but without the opening quotation mark. The
 /// string may have quotation marks and backslashes, but no other characters that need an escape.
 fn ends_printed(text: &[u8]) -> bool
     ensures { result ≡ true → EndsPrinted text.now }
@@ -94,7 +94,7 @@ fn ends_printed(text: &[u8]) -> bool
     at + 1 == text.len() && text[at] == b'"'
 }
 
-/// Returns true only if the escape of a quotation mark or of a backslash is at the given position.
+/// Returns true only if the escape `\"` or `\\` is at the position `at`.
 #[inline(always)]
 fn is_escape(text: &[u8], at: usize) -> bool
     requires { at ≤ length text.now }

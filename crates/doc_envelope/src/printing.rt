@@ -22,7 +22,7 @@ pub(crate) fn is_printed_member(member: &[u8]) -> bool
     is_id(member) || is_rev(member) || is_revs(member) || is_deleted(member)
 }
 
-/// Returns true only if a member is `_id` with a string of ASCII characters without escapes.
+/// Returns true only if a member is named `_id` and its value is an ASCII string without escapes.
 fn is_id(member: &[u8]) -> bool
     ensures { result ≡ true → IsPrintedMember member.now }
 {
@@ -32,7 +32,7 @@ fn is_id(member: &[u8]) -> bool
     }
 }
 
-/// Returns true only if a member is `_rev` with a string of ASCII characters without escapes.
+/// Returns true only if a member is named `_rev` and its value is an ASCII string without escapes.
 fn is_rev(member: &[u8]) -> bool
     ensures { result ≡ true → IsPrintedMember member.now }
 {
@@ -42,7 +42,8 @@ fn is_rev(member: &[u8]) -> bool
     }
 }
 
-/// Returns true only if a member is `_revisions` with the text in which CouchDB prints a revision history.
+/// Returns true only if a member is named `_revisions` and its value is a revision history exactly as CouchDB prints
+/// it.
 fn is_revs(member: &[u8]) -> bool
     ensures { result ≡ true → IsPrintedMember member.now }
 {
@@ -105,7 +106,7 @@ fn after_string(text: &[u8]) -> Option<&[u8]>
     Some(&text[end + 1..])
 }
 
-/// Returns true only if a value has the text in which CouchDB prints a revision history.
+/// Returns true only if a value is a revision history exactly as CouchDB prints it.
 fn is_revisions(value: &[u8]) -> bool
     ensures { result ≡ true → IsPrintedValue value.now }
 {
@@ -115,8 +116,8 @@ fn is_revisions(value: &[u8]) -> bool
     }
 }
 
-/// Returns true only if a text consists of a number, then the member `ids` with a list of strings, and then the brace
-/// that closes an object.
+/// Returns true only if a text consists of a number, the member `ids` with a list of strings, and a closing brace, in
+/// this order.
 fn is_started(start: &[u8]) -> bool
     ensures { result ≡ true → IsStarted start.now }
 {
@@ -151,8 +152,7 @@ fn is_start(text: &[u8]) -> bool
     }
 }
 
-/// Returns true only if a text consists of comma-separated ASCII strings without escapes, followed by the bracket that
-/// closes the list and the brace that closes the object.
+/// Returns true only if a text consists of comma-separated ASCII strings without escapes, followed by the bytes `]}`.
 fn are_ids(text: &[u8]) -> bool
     ensures { result ≡ true → AreIds text.now }
 {
@@ -163,8 +163,8 @@ fn are_ids(text: &[u8]) -> bool
     is_last_id(rest)
 }
 
-/// Returns the text after a string without escapes and a comma, or `None` if the text does not begin with such a string
-/// and a comma.
+/// Skips a string without escapes and the comma after the string, and returns the rest of the text. Returns `None` if
+/// the text does not begin with such a string and a comma.
 #[inline(always)]
 fn after_id(text: &[u8]) -> Option<&[u8]>
     ensures { IfSome result (λ rest. BeginsWithString text.now (44 ∷ rest.now)) }

@@ -1,4 +1,4 @@
-//! Makes the beginning of an envelope from the beginning of a document.
+//! Converts the beginning of a document to the beginning of the document's envelope.
 ghost use Rattle.std.specs.Prelude.{◌≡◌, drop, true, IfOk, IfSome};
 ghost use Rattle.doc_envelope.specs.Streams.{Opens};
 ghost use Rattle.doc_envelope.specs.Stored.{made_of};
@@ -11,10 +11,10 @@ use crate::streaming::{ends_first, may_stream};
 use std::alloc::AllocError;
 
 impl Envelope {
-    /// Makes the beginning of an envelope from the beginning of a document. Returns true only if the beginning of the
-    /// document ends inside a string, and further bytes of the string may be passed on without being stored. If
-    /// `begin_put` returns true, and all later members of the document go into its envelope's string `whole`, the
-    /// envelope begins with the built text (`Envelope::text`).
+    /// Converts the beginning of a document to the beginning of the document's envelope. Returns true only if
+    /// `beginning` ends inside a string whose further bytes may be passed on without being stored. If the call returns
+    /// true, the document's envelope begins with the built text (`Envelope::text`), provided that all later members go
+    /// into the string of `whole`.
     pub fn begin_put(&mut self, beginning: &[u8]) -> Result<bool, AllocError>
         ensures { IfOk result (λ ok. ok ≡ true → IsPutStart beginning.now (made_of self.new)) }
     {
@@ -29,8 +29,8 @@ impl Envelope {
     }
 }
 
-/// Returns true only if the beginning of a document ends inside a string of the member `_attachments`, and the member
-/// `_revisions` precedes this member.
+/// Returns true only if `beginning` ends inside a string of the member `_attachments`, and the member `_revisions`
+/// comes before `_attachments`.
 fn in_attachments(beginning: &[u8]) -> bool
     ensures { result ≡ true → InAttachments beginning.now }
 {
@@ -40,8 +40,8 @@ fn in_attachments(beginning: &[u8]) -> bool
     }
 }
 
-/// Returns the last member in `beginning`, the first bytes of a document, if this member is incomplete. Returns `None`
-/// if the last member is complete, or if the member `_revisions` does not precede the last member.
+/// Returns the last member in `beginning` (the first bytes of a document), if the member is incomplete. Returns `None`
+/// if the last member is complete, or if no member before the last member is `_revisions`.
 fn open_member(beginning: &[u8]) -> Option<&[u8]>
     ensures { IfSome result (λ member. Opens (drop 1 beginning.now) member.now) }
 {

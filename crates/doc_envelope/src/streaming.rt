@@ -1,4 +1,4 @@
-//! Recognizes texts after which a run (string bytes that are passed on without being stored) may follow.
+//! Recognizes texts that may be followed by a run: string bytes that are passed on without being stored.
 ghost use Rattle.std.specs.Prelude.{◌≡◌, ◌<◌, ◌≤◌, ◌==◌, length, drop, get_or, cond, true, false, IfSome};
 ghost use Rattle.std.specs.List.{list_all};
 ghost use Rattle.doc_envelope.specs.Members.{Outside, Quoted, first_length};
@@ -8,8 +8,7 @@ use crate::envelope::behind_brace;
 use crate::members::first_length;
 use json_values::plain_end;
 
-/// Returns true only if `text` ends inside a string, and further bytes of the string may be passed on without being
-/// stored.
+/// Returns true only if `text` ends inside a string whose further bytes may be passed on without being stored.
 pub(crate) fn may_stream(text: &[u8]) -> bool
     ensures { result ≡ true → MayStream text.now }
 {
@@ -51,9 +50,9 @@ fn ends_quoted(text: &[u8]) -> bool
     quoted
 }
 
-/// Returns the position after a byte that is not a quotation mark. In a string, `past_byte` also skips the byte after a
-/// backslash, or all bytes before the next quotation mark, backslash or control byte. Returns `None` if no byte follows
-/// a backslash.
+/// Skips a byte that is not a quotation mark, and returns the next position. In a string, `past_byte` also skips the
+/// byte after a backslash, or all bytes before the next quotation mark, backslash or control byte. Returns `None` if no
+/// byte follows a backslash.
 #[inline(always)]
 fn past_byte(quoted: bool, text: &[u8], at: usize) -> Option<usize>
     requires within { at < length text.now }
@@ -76,7 +75,7 @@ fn past_byte(quoted: bool, text: &[u8], at: usize) -> Option<usize>
     }
 }
 
-/// Returns true only if the first member of an object ends within the given beginning of the object's text.
+/// Returns true only if `text`, the beginning of an object, contains the end of the object's first member.
 pub(crate) fn ends_first(text: &[u8]) -> bool
     ensures { result ≡ true → first_length (drop 1 text.now) < length (drop 1 text.now) }
 {

@@ -11,9 +11,9 @@ use crate::streaming::{ends_first, may_stream};
 use std::alloc::AllocError;
 
 impl Envelope {
-    /// Unwraps the beginning of an envelope. Returns true only if a run (string bytes that are passed on without being
-    /// stored) may follow the beginning of the envelope. If the call returns true, the built text is the beginning of
-    /// each document whose envelope begins with `beginning`.
+    /// Unwraps the beginning of an envelope. Returns true only if `beginning` may be followed by a run: string bytes
+    /// that are passed on without being stored. If the call returns true, each document whose envelope begins with
+    /// `beginning` begins with the built text.
     pub fn begin_take(&mut self, beginning: &[u8]) -> Result<bool, AllocError>
         ensures { IfOk result (λ ok. ok ≡ true → IsTakeStart beginning.now (made_of self.new)) }
     {
@@ -32,9 +32,9 @@ impl Envelope {
         Ok(ends_first(self.text()) && may_stream(self.text()))
     }
 
-    /// Copies each complete member from the beginning of an envelope. Returns the text of the member that the beginning
-    /// of the envelope has only in part. Returns `None` if the envelope has a complete member `whole` whose value is
-    /// not a string, or is a blank string.
+    /// Copies each complete member from the beginning of an envelope. Returns the text of the last member, which is
+    /// incomplete in the beginning of the envelope. Returns `None` if the envelope has a complete member `whole` whose
+    /// value is not a string, or is a blank string.
     fn begin_unfold<'a>(&mut self, beginning: &'a [u8]) -> Result<Option<&'a [u8]>, AllocError>
         requires { 0 < length beginning.now }
         ensures { IfOk result (λ last. IfSome last (λ member. (t : List ℕ)
@@ -52,9 +52,9 @@ impl Envelope {
         Ok(Some(rest))
     }
 
-    /// Appends the content of the partial JSON string `string` to the built text. The text `string` is the beginning of
-    /// the value of the envelope's member `whole`. Returns `false` if `string` with a closing quotation mark is not a
-    /// JSON string, or if this JSON string is empty or has only spaces.
+    /// Appends the content of the incomplete JSON string `string` to the built text. `string` is the first part of the
+    /// value of the envelope's member `whole`. Returns `false` if `string` with a closing quotation mark is not a JSON
+    /// string, or if this JSON string is empty or has only spaces.
     fn take_open(&mut self, string: &[u8]) -> Result<bool, AllocError>
         ensures { IfOk result (λ ok. ok ≡ true
             → AppendsOpen string.now (made_of self.old) (made_of self.new)) }
@@ -69,8 +69,7 @@ impl Envelope {
     }
 }
 
-/// Returns the value of a member `whole`, if the value is a string, and if the member has no white space before the
-/// value.
+/// Returns the value of a member `whole`, if the value is a string and no white space precedes the value.
 fn open_whole(member: &[u8]) -> Option<&[u8]>
     ensures { IfSome result (λ string. (member.now ≡ whole_before (drop 1 string.now))
         × (string.now ≡ 34 ∷ drop 1 string.now)) }

@@ -1,4 +1,4 @@
--- Defines the table by which a selection rejects most ids that are not selected, as described in
+-- Defines a table with which a selection rejects most ids that are not selected, as described in
 -- crates/doc_json/README.md, "Design notes".
 use Rattle.std.specs.Prelude.{◌≡◌, ℕ, ◌+◌, ◌-◌, ◌*◌, ◌%◌, ◌<◌, Bool, true, false, List, [], ◌∷◌, length, drop, get_or}
 use Rattle.std.specs.List.{AllByRecursion}
@@ -19,7 +19,7 @@ is_marked_of places marks id = get_or marks (place_of places id) false
 abbrev pub is_marked : List Bool → List ℕ → Bool
 is_marked marks id = is_marked_of (length marks) marks id
 
--- The table of selected ids is not empty, and the table's value for each selected id is true.
+-- The table `marks` is not empty, and its value for each id of the list `ids` is true.
 pub record AreMarks (marks : List Bool) (ids : List (List ℕ)) : Type 0 where
   pub some : 0 < length marks
   pub each : AllByRecursion (λ id. is_marked marks id ≡ true) ids

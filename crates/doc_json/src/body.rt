@@ -21,8 +21,8 @@ use std::alloc::{AllocError, Global};
 use std::marker::Model;
 use std::sync::ArcSlice;
 
-/// The body of a document: the compact serialized form of a JSON object without members that begin with `_`, and
-/// without numbers other than 64-bit integers. Copies of a body share its bytes.
+/// The body of a document: a JSON object in compact serialized form. No member of the object begins with `_`, and each
+/// number in the object is an i64 or a u64. Copies of a body share its bytes.
 #[derive(Debug)]
 pub struct Body {
     text: ArcSlice<u8>,
@@ -112,7 +112,7 @@ pub fn read_line_body(alloc: Global, part: &LinePart<'_, '_>) -> Result<Body, Do
 }
 
 /// Reads a document's body from a JSON value. The argument `plain` says which strings of the value need no escapes when
-/// they are written as JSON. The argument `room` is a lower bound of the initial capacity of the body's buffer.
+/// they are written as JSON. The initial capacity of the body's buffer is at least `room` bytes.
 fn body_of<'v, V: JsonValue<'v>>(
     alloc: Global,
     value: &'v V,
@@ -138,7 +138,7 @@ where
     Ok(Body::from_text(text))
 }
 
-/// Builds a document's body from a JSON object, without the members whose names begin with `_`.
+/// Builds a document's body from a JSON object, and omits the members whose names begin with `_`.
 pub(crate) fn plain_body<'v, V: JsonValue<'v>>(
     alloc: Global,
     members: &'v V::Object,

@@ -135,7 +135,7 @@ fn in_order(ids: Vec<DocId>) -> Vec<DocId>
     ids
 }
 
-/// Guarantees by its contract, which proofs use, that each document id in a list is a string of bytes.
+/// Makes a fact available to proofs: each document id in a list is a string of bytes.
 fn are_texts(ids: &[DocId])
     ensures { AllByRecursion IsText ids.now }
 {

@@ -16,13 +16,13 @@ use crate::text::push_name;
 use json_values::PlainTexts;
 use std::alloc::{AllocError, Global};
 
-/// The initial capacity of a serialization buffer, in bytes. A buffer of 136 bytes is large enough for most small
-/// documents. A capacity that is up to 15 bytes smaller would take the same amount of memory from the allocator.
+/// The minimum initial capacity of a serialization buffer, in bytes. A buffer of 136 bytes is large enough for most
+/// small documents. The allocator uses the same amount of memory for each capacity from 121 to 136 bytes.
 const SHORT: usize = 136;
 
 /// Serializes a JSON object without its members whose names begin with `_`. The initial capacity of the buffer is at
-/// least `room`. The returned buffer has fewer than 32 unused bytes. If the serialized text has at most `SHORT` bytes
-/// and the allocation of a smaller buffer succeeds, the returned buffer has fewer than 16 unused bytes.
+/// least `room`. The returned buffer has fewer than 32 unused bytes. If the text has at most `SHORT` bytes, the
+/// returned buffer has fewer than 16 unused bytes, unless the allocation of a smaller buffer failed.
 pub(crate) fn plain_text<'v, V: JsonValue<'v>>(
     alloc: Global,
     members: &'v V::Object,
@@ -68,9 +68,8 @@ fn trimmed(text: Vec<u8>) -> Vec<u8>
     text
 }
 
-/// Moves a text of at most `SHORT` bytes to a buffer of the text's length, if the text's old buffer has at least 16
-/// unused bytes. Returns the text in its old buffer if the text is longer than `SHORT`, the old buffer has fewer than
-/// 16 unused bytes, or the allocation fails.
+/// Copies a text of at most `SHORT` bytes into a buffer of the text's length, if the old buffer has at least 16 unused
+/// bytes. In all other cases, and if the allocation fails, the call returns the text in its old buffer.
 fn fitted(alloc: Global, text: Vec<u8>) -> Vec<u8>
     ensures { result.items ≡ text.items }
 {

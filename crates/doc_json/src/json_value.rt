@@ -16,8 +16,8 @@ use std::alloc::AllocError;
 /// `json_values`).
 ///
 /// Contract clauses describe a JSON value by its data (`seen`). The ghost value `in_order` says whether the members of
-/// an object are in the byte order of the members' names. A `Value` always has its members in byte order of their
-/// names. For a `LineValue`, the caller must guarantee that the members are in byte order.
+/// an object are sorted by name, byte by byte. The members of a `Value` are always sorted by name. The caller must
+/// guarantee that the members of a `LineValue` are sorted by name.
 pub(crate) trait JsonValue<'v>: Sized + 'v {
     /// An iterator over the members of a JSON object.
     type Object;

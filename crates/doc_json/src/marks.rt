@@ -11,10 +11,10 @@ use std::sync::ArcSlice;
 /// The number of entries that a table of hashes has for each document id.
 const PLACES_EACH: usize = 8;
 
-/// The table for a list of fewer than `FEWEST` ids has the size of a table for `FEWEST` ids.
+/// If a list has fewer than `FEWEST` ids, its table is as large as the table for `FEWEST` ids.
 const FEWEST: usize = 8;
 
-/// The table for a list of more than `MOST` ids has the size of a table for `MOST` ids.
+/// If a list has more than `MOST` ids, its table is as large as the table for `MOST` ids.
 const MOST: usize = 1024;
 
 /// The maximum number of entries of a table of hashes.
@@ -27,7 +27,7 @@ fn ending(bytes: &[u8]) -> &[u8]
     &bytes[bytes.len().saturating_sub(8)..]
 }
 
-/// Returns the table index of an id, computed from the id's last bytes.
+/// Computes the table index of a document id from the id's last bytes.
 fn place_of(id: &DocId, places: usize) -> usize
     requires { 0 < places }
     ensures within { result < places }
@@ -47,7 +47,7 @@ fn places_for(ids: usize) -> usize
     ids.max(FEWEST).min(MOST) * PLACES_EACH
 }
 
-/// Builds the table of a list of ids, in which the entry of each of these ids is true.
+/// Builds the table for a list of ids. The table entry of each id in the list is true.
 pub(crate) fn mark(alloc: Global, ids: &[DocId]) -> Result<ArcSlice<bool>, AllocError>
     ensures marks { IfOk result (λ marks. AreMarks (arc_slice_items marks) ids.now) }
 {
@@ -60,7 +60,7 @@ pub(crate) fn mark(alloc: Global, ids: &[DocId]) -> Result<ArcSlice<bool>, Alloc
     Ok(ArcSlice::from_vec(marks)?)
 }
 
-/// Whether the table entry of an id is true.
+/// Whether the table entry at the index of a document id is true.
 pub(crate) fn is_marked(marks: &[bool], id: &DocId) -> bool
     requires { 0 < length marks.now }
     ensures { result ≡ is_marked marks.now id.now }

@@ -12,7 +12,7 @@ use crate::doc_id::is_special;
 use crate::json_value::JsonValue;
 use json_values::is_same_text;
 
-/// Whether the name of a member begins with `_`.
+/// Whether an object has a member whose name begins with `_`.
 pub(crate) fn has_special<'v, V: JsonValue<'v>>(members: &'v V::Object) -> bool
     ensures { result ≡ has_special (V.members_seen members.now) }
 {
@@ -25,8 +25,9 @@ pub(crate) fn has_special<'v, V: JsonValue<'v>>(members: &'v V::Object) -> bool
     false
 }
 
-/// The members of a document that begin with `_`, and whether one of these members is unknown. A `FoundMembers` value
-/// also says whether a member without a leading `_` is or contains a number that is neither an i64 nor a u64.
+/// The members `_id`, `_attachments`, `_deleted`, `_rev` and `_revisions` of a document. The field `has_unknown` says
+/// whether a member that begins with `_` is unknown. The field `has_fraction` says whether a member without a leading
+/// `_` is or contains a number that is neither an i64 nor a u64.
 #[derive_where(Clone, Copy)]
 pub(crate) struct FoundMembers<'v, V> {
     pub(crate) id: Option<&'v V>,
@@ -38,7 +39,7 @@ pub(crate) struct FoundMembers<'v, V> {
     pub(crate) has_fraction: bool,
 }
 
-/// Scans an object's members once, finds the members that begin with `_`, and checks all other members.
+/// Scans an object's members once. Finds the members that begin with `_`, and checks the numbers in all other members.
 pub(crate) fn find_members<'v, V: JsonValue<'v>>(members: &'v V::Object) -> FoundMembers<'v, V>
     ensures id { option_map (λ v. V.seen v.now) result.id
         ≡ get_member (codes "_id") (V.members_seen members.now) }
@@ -70,7 +71,7 @@ pub(crate) fn find_members<'v, V: JsonValue<'v>>(members: &'v V::Object) -> Foun
     found
 }
 
-/// Adds one member of a document to the members that were found.
+/// Adds one member of a document to the found members.
 fn looked<'v, V: JsonValue<'v>>(
     found: FoundMembers<'v, V>,
     name: &str,
@@ -109,7 +110,7 @@ fn looked<'v, V: JsonValue<'v>>(
     }
 }
 
-/// Adds one member that begins with `_` to the members that were found.
+/// Adds one member that begins with `_` to the found members.
 fn with_special<'v, V: JsonValue<'v>>(
     found: FoundMembers<'v, V>,
     name: &str,
@@ -144,8 +145,8 @@ fn with_special<'v, V: JsonValue<'v>>(
     }
 }
 
-/// Returns `found`, unless `found` is `None`. If `found` is `None`, returns `member` if its name is `wanted`, and
-/// otherwise `None`.
+/// Returns `found` if `found` is not `None`. Otherwise, returns `member` if the name `name` is `wanted`, or else
+/// `None`.
 fn kept<'v, V: JsonValue<'v>>(
     found: Option<&'v V>,
     name: &str,

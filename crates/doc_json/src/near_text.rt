@@ -9,8 +9,7 @@ const MOST_BYTES: usize = 32;
 
 /// A string of at most 32 bytes, followed by zeros.
 ///
-/// The length of an inline string has four bytes instead of the eight of a `usize`, because a database may have
-/// millions of ids.
+/// The length is stored in four bytes instead of eight, because a database may have millions of ids.
 #[derive(Drop)]
 pub(crate) struct NearText {
     len: u32,
@@ -45,8 +44,7 @@ impl NearText {
         })
     }
 
-    /// Copies the string. The call copies all 32 bytes of the inline string, so that the compiler knows the size of the
-    /// copy.
+    /// Copies the string. The call always copies 32 bytes, so that the compiler knows the size of the copy.
     pub(crate) fn copy(&self) -> NearText
         ensures { result ≡ self.now }
     {

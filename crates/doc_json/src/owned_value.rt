@@ -16,7 +16,8 @@ use serde_json::{Map, Number, Value};
 use std::alloc::AllocError;
 use std::collections::btree_map;
 
-/// A `serde_json` value has no record of which strings need no escapes.
+/// States that every string may need escapes, because a `serde_json` value does not record which strings need no
+/// escapes.
 pub(crate) const NONE_KNOWN: PlainTexts = PlainTexts {
     names: false,
     values: false,

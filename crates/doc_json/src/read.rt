@@ -50,7 +50,7 @@ pub fn read_line_doc(alloc: Global, part: &LinePart<'_, '_>) -> Result<Doc, DocF
 }
 
 /// Reads a value as a document. The argument `plain` says which strings of the value need no escapes when they are
-/// written as JSON. The argument `room` is a lower bound of the initial capacity for the body.
+/// written as JSON. The initial capacity of the body's buffer is at least `room` bytes.
 fn document_of<'v, V: JsonValue<'v>>(
     alloc: Global,
     value: &'v V,

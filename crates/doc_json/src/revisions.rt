@@ -89,7 +89,8 @@ fn read_numbered<'v, V: JsonValue<'v>>(
     }
 }
 
-/// Returns the ancestry if `_rev` is missing or is the ancestry's newest revision.
+/// Returns the ancestry if `_rev` is missing or is the ancestry's newest revision, and otherwise the error
+/// `RevMismatch`.
 pub(crate) fn matched(
     ancestry: Ancestry,
     rev: Option<Rev>,
@@ -151,7 +152,8 @@ fn numbered<'v, V: JsonValue<'v>>(
     Ok(Some(revs))
 }
 
-/// Returns an error unless the generation `start` and the list of signatures form an ancestry that agrees with `_rev`.
+/// Checks that the generation `start` and the list of signatures form an ancestry, and that `_rev` is missing or is the
+/// newest revision.
 fn check_numbered<'v, V: JsonValue<'v>>(
     start: u64,
     ids: &'v [V],
@@ -186,7 +188,7 @@ fn ids_of<'v, V: JsonValue<'v>>(value: &'v V) -> Option<&'v [V]>
     value.get("ids")?.as_array()
 }
 
-/// Whether `start` is a generation, and the list has 1 to `start` items, all of which are signatures.
+/// Whether `start` is a generation, and the list consists of 1 to `start` signatures.
 fn are_ids<'v, V: JsonValue<'v>>(start: u64, ids: &'v [V]) -> bool
     ensures { result ≡ is_ok (numbered_from (Some start) (sigs_of (items_of (map V.seen ids.now)))) }
 {

@@ -133,7 +133,7 @@ fn escape_of(byte: u8) -> ([u8; 6], usize)
     ([byte, 0, 0, 0, 0, 0], 1)
 }
 
-/// Returns the letter of a byte's short escape, or 0 if the byte has no short escape.
+/// Returns the letter of a byte's short JSON escape (such as `n` in `\n`), or 0 if the byte has no short escape.
 fn letter(byte: u8) -> u8
     ensures { result ≡ escape_letter byte }
 {

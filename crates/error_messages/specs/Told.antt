@@ -7,7 +7,7 @@ use Rattle.visible_text.specs.Visible.{IsSeen}
 abbrev pub AddsSeen : List ℕ → List ℕ → Type 0
 AddsSeen old new = (more : List ℕ) × IsSeen more × (new ≡ old ++ encode_utf8_all more)
 
--- The text with which the explanation of a failed line begins: the line's number, and the error's name.
+-- The beginning of the explanation of a failed line, with the line's number and the error's name.
 abbrev pub beginning : ℕ → List ℕ → List ℕ
 beginning number name = codes "line " ++ decimal number ++ codes ": " ++ name ++ codes ": "
 

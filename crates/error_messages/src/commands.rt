@@ -28,7 +28,7 @@ pub(crate) enum Kind {
 /// A member of a command: its name, its type, and whether it is required.
 type Member = (&'static str, Kind, bool);
 
-/// A table of all commands, with each command's members other than `do`.
+/// A table of all commands. Each row lists the members of a command, except `do`.
 static WORDS: &[(&str, &[Member])] = &[
     (
         "load",
@@ -150,8 +150,7 @@ pub(crate) enum CommandFault<'v> {
     NoWord,
     /// The command is unknown.
     UnknownWord(&'v str),
-    /// The object has a member whose name the command does not allow. The field of `UnknownMember` is the member's
-    /// name.
+    /// The object has a member whose name the command does not allow. The variant's field is the name of this member.
     UnknownMember(&'v str),
     /// A required member is missing.
     Missing(&'static str),
@@ -237,7 +236,7 @@ fn is_of_kind(value: &LineValue<'_>, kind: &Kind) -> bool {
     }
 }
 
-/// Whether a value is a string for which `holds` is true.
+/// Whether a value is a string for which the function `holds` returns true.
 fn is_text_where(value: &LineValue<'_>, holds: fn(&str) -> bool) -> bool
     requires { IsAlwaysCallable holds }
 {

@@ -12,10 +12,10 @@ use std::alloc::{AllocError, Global};
 
 /// Appends an explanation: the line's number, the error name, the part at fault if this part is known, and the meaning
 /// of the error name (docs/PROFILE.md, "Names of refusals"). The part at fault is a command, a member, a document or a
-/// database. Strings of the failed line are printed as JSON strings in the line's explanation.
+/// database. The explanation prints strings of the failed line as JSON strings.
 ///
-/// The contract guarantees that the explanation is one line without hidden characters, for example control characters.
-/// The contract does not say which text explains the reason of the error.
+/// The contract guarantees that the explanation is one line without hidden characters, such as control characters. The
+/// contract does not specify the text that explains the reason of the error.
 ///
 /// # Errors
 ///
@@ -48,7 +48,8 @@ fn push_beginning(text: &mut String, number: u64, name: &str) -> Result<(), Allo
     text.push_str(": ")
 }
 
-/// Appends the command, member, document or database at fault, and the meaning of the error name.
+/// Appends the part of the line that is at fault (a command, member, document or database), and the meaning of the
+/// error name.
 fn push_reason(
     values: &mut ValueReader,
     alloc: Global,
@@ -64,7 +65,7 @@ fn push_reason(
     }
 }
 
-/// Appends the part of a line's object that is at fault, and the meaning of the error name.
+/// Appends the part of the object that is at fault, and the meaning of the error name.
 fn push_read_reason(text: &mut String, name: &str, object: &LineValue<'_>) -> Result<(), AllocError>
     ensures { OnOk result (AddsSeen (string_bytes text.old) (string_bytes text.new)) }
 {

@@ -64,8 +64,8 @@ fn push_database(text: &mut String, db: &str) -> Result<(), AllocError>
     push_words(text, ": ")
 }
 
-/// Appends `from`, the name of a replication's source, and a colon to the text. If the failed line names a target, `to`
-/// and the target's name precede the colon.
+/// Appends `from`, the name of a replication's source, and a colon to the text. If the failed line names a target, the
+/// call appends `to` and the target's name before the colon.
 fn push_databases(text: &mut String, object: &LineValue<'_>, source: &str) -> Result<(), AllocError>
     ensures { OnOk result (AddsSeen (string_bytes text.old) (string_bytes text.new)) }
 {
@@ -85,7 +85,7 @@ fn push_target(text: &mut String, object: &LineValue<'_>) -> Result<(), AllocErr
     }
 }
 
-/// Returns the document id that a line names, if that id is a string.
+/// Returns the document id in a line, if the id is a string.
 fn id_of<'v>(object: &'v LineValue<'_>) -> Option<&'v str> {
     match object.get("doc") {
         Some(doc) => text_of(doc, "_id"),
@@ -101,7 +101,8 @@ fn text_of<'v>(object: &'v LineValue<'_>, name: &str) -> Option<&'v str> {
     }
 }
 
-/// Returns the member of the line's document or body that caused the error, if this member is known.
+/// Returns the name of the member that caused the error, in the line's document or body. Returns `None` if this member
+/// is not known.
 fn member_at_fault<'v>(name: &str, object: &'v LineValue<'_>) -> Option<&'v str> {
     let (value, is_body) = match object.get("doc") {
         Some(document) => (document, false),
@@ -115,8 +116,8 @@ fn member_at_fault<'v>(name: &str, object: &'v LineValue<'_>) -> Option<&'v str>
     None
 }
 
-/// Whether the member `member` of a document causes the error `name`. The document is the member `doc` of a line, or,
-/// if `is_body` is true, the member `body` of a line without `doc`.
+/// Whether the member `member` of a document causes the error `name`. If `is_body` is false, the document is the line's
+/// member `doc`. If `is_body` is true, the line has no `doc`, and the document is the line's member `body`.
 fn is_at_fault(name: &str, member: &str, value: &LineValue<'_>, is_body: bool) -> bool {
     if is_same_text("Fraction", name) {
         return has_fraction(value);
@@ -136,8 +137,8 @@ fn is_special(member: &str) -> bool {
 }
 
 /// Whether a document is rejected because of the given special member (a member whose name begins with `_`). A document
-/// is rejected for a member `_deleted` that is not a Boolean, and for a special member whose name is not in the list of
-/// docs/PROFILE.md, "What `read_doc` accepts".
+/// is rejected if `_deleted` is not a Boolean, or if a special member is not in the list of docs/PROFILE.md, "What
+/// `read_doc` accepts".
 fn is_odd(member: &str, value: &LineValue<'_>) -> bool {
     if is_same_text("_deleted", member) {
         return value.as_bool().is_none();

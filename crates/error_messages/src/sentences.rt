@@ -3,7 +3,7 @@
 use json_values::is_same_text;
 
 /// A table of the errors of failed lines, with each error's name and meaning. The table omits errors that no line is
-/// expected to have.
+/// expected to cause.
 static SENTENCES: &[(&str, &str)] = &[
     (
         "Attachments",
@@ -130,7 +130,8 @@ static SENTENCES: &[(&str, &str)] = &[
     ("UuidTaken", "another database has that UUID"),
 ];
 
-/// Returns the meaning of an error name, or the text `no line fails with this name` if the table omits the name.
+/// Returns the meaning of an error name. If the table does not have the name, returns the text `no line fails with this
+/// name`.
 pub(crate) fn sentence_of(name: &str) -> &'static str {
     for row in SENTENCES {
         if is_same_text(name, row.0) {

@@ -16,7 +16,7 @@ pub enum Took {
     /// The line ends a block of the journal with a right checksum, which confirms the block. The variant `Closed` has
     /// the bytes of the block's lines, without the line that ends the block.
     Closed(Vec<u8>),
-    /// The line ends a block with a wrong checksum, or follows a line with a wrong checksum.
+    /// The line, or an earlier line, ends a block with a wrong checksum.
     Damaged,
 }
 
@@ -127,8 +127,8 @@ impl Blocks {
         Ok(seq)
     }
 
-    /// Returns the hash of the current block if the given line is the right last line of the block, and otherwise
-    /// `None`.
+    /// Returns the hash of the current block if the given line correctly ends the block. Returns `None` for any other
+    /// line.
     fn hash_in(&self, line: &[u8], seq: &[u8]) -> Result<Option<String>, AllocError>
         requires { seq.now ≡ seq_of self.now.count line.now }
         ensures { IfOk result (λ hash. (place : Place) → IsAt self.now place

@@ -11,8 +11,7 @@ use std::alloc::{AllocError, Global};
 use std::mem;
 
 /// Returns the number of lines before the first wrong line, or `None` if no line is wrong. The argument `before` is the
-/// result of `wrong_after` for the first `count` lines. The argument `wrong` says whether the line after the first
-/// `count` lines is wrong.
+/// result for the first `count` lines. The argument `wrong` says whether the next line is wrong.
 fn wrong_after(before: Option<u64>, wrong: bool, count: u64) -> Option<u64>
     ensures { result ≡ wrong_after before wrong count }
 {
@@ -49,8 +48,8 @@ impl Seal {
         })
     }
 
-    /// Returns the number of lines before the first line that a block cannot contain, or `None` if no such line was
-    /// read. A block can contain neither a line that ends a block, nor a last line without a line end.
+    /// Returns the number of lines before the first wrong line, or `None` if no wrong line was read. A line is wrong if
+    /// it ends a block, or if it is the last line and has no line end.
     pub fn wrong(&self) -> Option<u64>
         ensures { result ≡ self.now.wrong }
     {
@@ -86,9 +85,9 @@ impl LineTask for Seal {
 }
 
 /// Reads the lines of a block up to the end of the input, and writes the line that ends the block. The argument `chain`
-/// is the hash of the previous block. Returns `None` if a block can contain all input lines, and otherwise the number
-/// of lines before the first line that a block cannot contain. A block can contain neither a line that ends a block,
-/// nor a last line without a line end. If a block cannot contain one of the lines, nothing is written.
+/// is the hash of the previous block. A line is wrong if it ends a block, or if it is the last line and has no line
+/// end. Returns `None` if no line is wrong. If a line is wrong, the call writes nothing, and returns the number of
+/// lines before the first wrong line.
 ///
 /// # Errors
 ///

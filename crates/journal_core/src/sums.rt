@@ -101,7 +101,7 @@ pub(crate) fn sum_line(
     Ok(line)
 }
 
-/// Returns the bytes of a line after its first `head` bytes, the 64 digits of a hash, and a blank.
+/// Skips the first `head` bytes of a line, the 64 digits of a hash and a blank, and returns all further bytes.
 pub(crate) fn seq_in(head: usize, line: &[u8]) -> &[u8]
     ensures { result.now ≡ drop (head + 65) line.now }
 {

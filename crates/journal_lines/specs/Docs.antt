@@ -24,8 +24,8 @@ keys_or_none (Some revs) = revs.keys
 abbrev pub add_rev : List (List ℕ) → List ℕ → List (List ℕ)
 add_rev revs rev = if list_any (bytes_eq rev) revs then revs else revs ++ rev ∷ []
 
--- The revisions of each document after adding revision `rev` of document `id`, or the unchanged revisions if the
--- document already has this revision.
+-- A list of documents with their revisions, after adding revision `rev` to document `id`. The list is unchanged if
+-- document `id` already has revision `rev`.
 abbrev pub add_pair : DocsView → List ℕ → List ℕ → DocsView
 add_pair [] id rev = (id, rev ∷ []) ∷ []
 add_pair (doc ∷ docs) id rev = if bytes_eq id doc.0 then (doc.0, add_rev doc.1 rev) ∷ docs else doc ∷ add_pair docs id rev

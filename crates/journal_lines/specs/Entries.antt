@@ -6,9 +6,9 @@ use Rattle.journal_lines.specs.Leafs.{HeadView, head_view, line_head}
 use Rattle.journal_lines.specs.declared.entry.Entry.{Entry}
 use Rattle.journal_lines.specs.declared.entry.Entry.TheVariants as entries
 
--- The content of a journal line: the leaves of a document (`state`), its requested leaves (`lacks`), or the document's
--- id, ancestry and deleted flag (`leaf`). The content `wrong` means that a journal line neither lists leaves nor has a
--- document.
+-- The content of a journal line: a document's leaves (`state`), a document's requested leaves (`lacks`), or a
+-- document's id, ancestry and deleted flag (`leaf`). The content is `wrong` if the journal line has neither a list of
+-- leaves nor a document.
 pub data EntryView : Type 0 where
   state : LeavesView → EntryView
   lacks : LeavesView → EntryView

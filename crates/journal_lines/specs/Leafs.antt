@@ -38,11 +38,12 @@ HeadView = List ℕ × LeafView × Bool
 abbrev pub head_view : Leaf → HeadView
 head_view leaf = (string_bytes leaf.id, leaf_view leaf, leaf.deleted)
 
--- The newest generation and the signatures of an ancestry, given the form in which the program stores the ancestry.
+-- The value of a stored ancestry in contracts: the newest generation and the signatures.
 abbrev pub ancestry_view : ℕ × Vec (String Global) Global → ℕ × List (List ℕ)
 ancestry_view p = (p.0, texts_of p.1.items)
 
--- The newest generation and the signatures in the member `_revisions` of a document, if the member has both.
+-- The newest generation (`start`) and the signatures (`ids`) in a document's member `_revisions`, if the member has
+-- both.
 abbrev pub ancestry_in : Json → Option (ℕ × List (List ℕ))
 ancestry_in revisions = both (number_at (codes "start") revisions) (option_and_then revs_json (items_at (codes "ids") revisions))
 

@@ -17,7 +17,7 @@ texts_of texts = map string_bytes texts
 abbrev pub leaves_view : Leaves → LeavesView
 leaves_view leaves = (string_bytes leaves.seq, string_bytes leaves.id, texts_of leaves.revs.items)
 
--- The list xs with the item x added at the beginning, or `None` if x or xs is absent.
+-- The list xs after the item x was added at its beginning, or `None` if x or xs is `None`.
 abbrev pub with_first : {A : Type 0} → Option A → Option (List A) → Option (List A)
 with_first None xs = None
 with_first (Some x) None = None
@@ -55,15 +55,15 @@ named_in seq (string s) = None
 named_in seq (array js) = named_items seq js
 named_in seq (object ms) = None
 
--- The sequence `seq`, with the document id and the revisions that a JSON list names.
+-- The sequence `seq`, together with the document id and the revisions in the text of a JSON list.
 abbrev pub list_in : List ℕ → List ℕ → Option LeavesView
 list_in seq list = option_and_then (named_in seq) (document list)
 
 abbrev pub token : List ℕ → Option (List ℕ)
 token text = if is_token text then Some text else None
 
--- The leaves of a journal line, given the line's sequence and the text of the line's JSON list. The result is `None` if
--- the line's sequence or the list's text is absent, or if this text is not a list of an id and revisions.
+-- The leaves of a journal line with the given sequence and JSON list. The result is `None` in three cases: the line has
+-- no sequence, the line has no list, or the list is not an id followed by revisions.
 abbrev pub leaves_at : Option (List ℕ) → Option (List ℕ) → Option LeavesView
 leaves_at None list = None
 leaves_at (Some seq) None = None
@@ -73,8 +73,8 @@ abbrev pub leaves_by : Option (List ℕ × List ℕ) → Option LeavesView
 leaves_by None = None
 leaves_by (Some parts) = leaves_at (option_and_then token (text_in parts.0)) (text_in parts.1)
 
--- The leaves that a journal line names. The argument `rest` is the part of the line after the line's beginning, which
--- is `state` or `lacks` and a blank.
+-- The leaves that a journal line names. The argument `rest` is the line without its beginning, which is `state` or
+-- `lacks` and a blank.
 abbrev pub leaves_in : List ℕ → Option LeavesView
 leaves_in rest = leaves_by (cut_at_blank rest)
 

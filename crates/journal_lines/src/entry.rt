@@ -14,8 +14,7 @@ use std::alloc::{AllocError, Global};
 pub enum Entry {
     /// A `state` line, which lists the leaves of a document at a sequence.
     State(Leaves),
-    /// A `lacks` line, which lists the requested leaves of a document because the source did not return all of these
-    /// leaves.
+    /// A `lacks` line, which lists a document's requested leaves. The source did not return all of these leaves.
     Lacks(Leaves),
     /// A line with a document.
     Leaf(Leaf),

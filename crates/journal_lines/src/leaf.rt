@@ -12,8 +12,7 @@ use itoa::Buffer;
 use json::{Scratch, Value};
 use std::alloc::{AllocError, Global};
 
-/// The head of a document, which consists of the document's id, revision and known ancestry, and of whether the
-/// document is deleted.
+/// The head of a document: the document's id, revision and known ancestry, and whether the document is deleted.
 #[derive(Drop)]
 pub struct Leaf {
     /// The id of the document.
@@ -39,8 +38,8 @@ pub fn rev_of(alloc: Global, generation: u64, name: &str) -> Result<String, Allo
     Ok(rev)
 }
 
-/// Whether a revision is in an ancestry. The ancestry is given by the generation `start` of its newest revision, and by
-/// the signatures `names` of its revisions, newest first.
+/// Whether a revision is in an ancestry. The argument `start` is the generation of the ancestry's newest revision. The
+/// list `names` has the signatures of the ancestry's revisions, newest first.
 fn is_in(alloc: Global, rev: &str, start: u64, names: &[String]) -> Result<bool, AllocError>
     ensures { IfOk result (λ is_in. is_in ≡ knows_at rev.now start (texts_of names.now)) }
 {
@@ -90,8 +89,8 @@ fn ancestry_in(
     }
 }
 
-/// Returns the newest generation and the signatures in a document's `_revisions`, or 0 and no signatures if the
-/// document lacks this member. Returns `None` if the member is invalid.
+/// Returns the newest generation and the signatures from a document's `_revisions`. If the document lacks this member,
+/// returns 0 and an empty list. Returns `None` if the member is invalid.
 fn ancestry_of(alloc: Global, doc: &Value<'_>) -> Result<Option<(u64, Vec<String>)>, AllocError>
     ensures { IfOk result (λ o. option_map ancestry_view o ≡ ancestry_by (get (codes "_revisions") (value_view doc.now))) }
 {
@@ -101,7 +100,7 @@ fn ancestry_of(alloc: Global, doc: &Value<'_>) -> Result<Option<(u64, Vec<String
     }
 }
 
-/// Whether a document has the member `_deleted` with the value `true`.
+/// Whether a document's member `_deleted` is `true`.
 fn is_deleted(doc: &Value<'_>) -> bool
     ensures { result ≡ is_deleted (value_view doc.now) }
 {
@@ -111,7 +110,8 @@ fn is_deleted(doc: &Value<'_>) -> bool
     }
 }
 
-/// Returns the id, the ancestry and the deleted flag of a document, or `None` if the value `doc` is not a document.
+/// Returns the id, the revision, the ancestry and the deleted flag of a document, or `None` if the value `doc` is not a
+/// document.
 fn head_of(alloc: Global, doc: &Value<'_>) -> Result<Option<Leaf>, AllocError>
     ensures { IfOk result (λ o. option_map head_view o ≡ head_in (value_view doc.now)) }
 {
@@ -135,8 +135,8 @@ fn head_of(alloc: Global, doc: &Value<'_>) -> Result<Option<Leaf>, AllocError>
     }))
 }
 
-/// Returns the id, the ancestry and the deleted flag of the document in the member `doc` of a JSON value, if there is
-/// one.
+/// Reads a document's id, revision, ancestry and deleted flag from the member `doc` of a JSON value. Returns `None` if
+/// the member is missing or is not a document.
 fn head_at(alloc: Global, value: &Value<'_>) -> Result<Option<Leaf>, AllocError>
     ensures { IfOk result (λ o. option_map head_view o ≡ option_and_then head_in (get (codes "doc") (value_view value.now))) }
 {
@@ -146,7 +146,8 @@ fn head_at(alloc: Global, value: &Value<'_>) -> Result<Option<Leaf>, AllocError>
     }
 }
 
-/// Returns the id, ancestry and deleted flag of the document in the member `doc` of a journal line, if there is one.
+/// Reads a document's id, revision, ancestry and deleted flag from the member `doc` of a journal line. Returns `None`
+/// if the line is not JSON with a document in the member `doc`.
 pub(crate) fn leaf_of(
     alloc: Global,
     scratch: &mut Scratch,

@@ -34,8 +34,8 @@ fn are_token_bytes(bytes: &[u8]) -> bool
     bytes.iter().all(|b| is_token_byte(*b))
 }
 
-/// Whether a string is a sequence, which is 1 or more printable ASCII characters without blanks, quotation marks and
-/// backslashes.
+/// Whether a string is a sequence. A sequence consists of one or more printable ASCII characters, and has no blank,
+/// quotation mark or backslash.
 pub fn is_token(text: &str) -> bool
     ensures { result ≡ is_token text.now }
 {
@@ -121,8 +121,8 @@ fn seq_of(bytes: &[u8]) -> Option<&str>
     }
 }
 
-/// Returns the leaves that a journal line lists, given the rest of the line after `state ` or `lacks `. In a valid
-/// line, a sequence, a blank and a JSON list follow `state ` or `lacks `.
+/// Parses the rest of a journal line after `state ` or `lacks `, and returns the leaves that the line lists. A valid
+/// line has a sequence, a blank and a JSON list after `state ` or `lacks `.
 pub(crate) fn leaves_of(
     alloc: Global,
     scratch: &mut Scratch,
@@ -153,7 +153,7 @@ fn push_revs(alloc: Global, out: &mut Vec<u8>, revs: &[String]) -> Result<(), Al
     Ok(())
 }
 
-/// Appends a line that lists the leaves of a document. The line consists of its kind `word` (such as `state`), the
+/// Appends a line that lists the leaves of a document. The line consists of the keyword `word` (such as `state`), the
 /// sequence, and a JSON list of the id and the revisions.
 pub fn push_leaves(
     alloc: Global,

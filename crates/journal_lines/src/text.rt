@@ -31,7 +31,7 @@ fn first_blank(bytes: &[u8]) -> Option<usize>
     bytes.iter().position(|b| *b == b' ')
 }
 
-/// Returns the bytes before and the bytes after the first blank, if there is a blank.
+/// Splits bytes at the first blank, and returns both parts without the blank. Returns `None` if there is no blank.
 pub(crate) fn cut_at_blank(bytes: &[u8]) -> Option<(&[u8], &[u8])>
     ensures { option_map (λ p. (p.0.now, p.1.now)) result ≡ cut_at_blank bytes.now }
 {
@@ -52,7 +52,8 @@ pub fn push_json(alloc: Global, out: &mut Vec<u8>, text: &str) -> Result<(), All
     Ok(())
 }
 
-/// Whether a byte may occur in a revision that is written without quotation marks.
+/// Whether a byte is an ASCII letter, a digit, `-`, `_` or `.`. A revision of such bytes is written without quotation
+/// marks.
 fn is_plain_byte(byte: u8) -> bool
     ensures { result ≡ is_plain_byte byte }
 {

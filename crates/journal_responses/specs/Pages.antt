@@ -73,8 +73,8 @@ row_text several row = if is_printed several row then leaves_line (codes "state"
 abbrev pub rows_text : Bool → List LeavesView → List ℕ
 rows_text several rows = flat_map (row_text several) rows
 
--- The last line of the output for a page: the number of rows, the last sequence, and the number of documents after the
--- page.
+-- The last line of the output for a page of changes: the number of rows, the last sequence, and the number of pending
+-- documents.
 abbrev pub last_line : ℕ → List ℕ → List ℕ → List ℕ
 last_line rows last pending = codes "page " ++ decimal rows ++ codes " " ++ last ++ codes " " ++ pending ++ codes "\n"
 

@@ -37,7 +37,7 @@ IsSaid j NotJson = ⊥
 IsSaid j Other = error_in j ≡ None
 IsSaid j Memory = ⊤
 
--- The error says that a server's response is not the requested response, and not that an allocation failed.
+-- The error is not `Memory`, but says that a server's response is not the requested response.
 abbrev pub IsOther : Said → Type 0
 IsOther (Error error reason) = ⊤
 IsOther NotJson = ⊤

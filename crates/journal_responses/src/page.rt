@@ -215,8 +215,8 @@ fn read_page(alloc: Global, value: &Value<'_>) -> Result<Option<Page>, AllocErro
     }))
 }
 
-/// Appends the last line of a page's text, with the number of the page's rows, the page's last sequence, and the number
-/// of documents after the page.
+/// Appends the last line of a page's text. The line has the number of rows, the last sequence, and the number of
+/// documents after the page.
 fn push_last(text: &mut Vec<u8>, rows: usize, last: &str, pending: &str) -> Result<(), AllocError>
     ensures { OnOk result (text.new.items ≡ text.old.items ++ last_line rows last.now pending.now) }
 {

@@ -74,7 +74,7 @@ fn push_entries(
     Ok(refused)
 }
 
-/// Appends a line for each document that the server refused, as a response of `_bulk_docs` says. Returns whether the
+/// Appends a line for each document that the server rejected according to a `_bulk_docs` response. Returns whether the
 /// call appended a line.
 ///
 /// # Errors

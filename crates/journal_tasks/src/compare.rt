@@ -24,7 +24,7 @@ use std::alloc::{AllocError, Global};
 
 /// The task's input is a first list of leaves, an empty line, and a second list of leaves. For each line of the second
 /// list of leaves, the task prints the leaves that the first list of leaves does not have. With the option `documents`,
-/// the task prints all leaves of each line of the second list whose document is not in the first list.
+/// the task instead prints all leaves of each line whose document is not in the first list.
 ///
 /// The task holds in memory the first of the two lists of leaves in its input.
 #[derive(Drop)]
@@ -83,7 +83,7 @@ fn add_first(alloc: Global, docs: &mut Docs, entry: &Entry) -> Result<bool, Allo
     }
 }
 
-/// Returns copies of the given leaves of a document that a list does not have.
+/// Returns copies of those leaves in `revs` that `docs` does not have for the document `id`.
 fn unlisted(
     alloc: Global,
     docs: &Docs,
@@ -124,8 +124,7 @@ impl Compare {
         self.count.wrong
     }
 
-    /// Appends the output (which may be empty) that the task prints for leaves of a document of the second list of
-    /// leaves in its input.
+    /// Appends the output for the leaves `revs` of a document in the second list of leaves. The output may be empty.
     fn push(
         &self,
         text: &mut Vec<u8>,
@@ -149,8 +148,8 @@ impl Compare {
         push_leaves(self.alloc, text, "state", seq, id, found.as_slice())
     }
 
-    /// Appends the output (which may be empty) that the task prints for one line of the second list of leaves in its
-    /// input. Returns whether the line is a valid line of a list of leaves.
+    /// Appends the output for one line of the second list of leaves. The output may be empty. Returns whether the line
+    /// is a valid line of a list of leaves.
     fn push_entry(&self, text: &mut Vec<u8>, entry: &Entry) -> Result<bool, AllocError>
         ensures right { IfOk result (λ right. right ≡ not (is_wrong_entry (entry_view entry.now))) }
         ensures text { OnOk result (text.new.items ≡ text.old.items ++ flat_map (compared_by self.now.documents
@@ -234,8 +233,8 @@ impl LineTask for Compare {
 }
 
 /// Reads a first list of leaves, an empty line and a second list of leaves. For each line of the second list, writes
-/// the leaves that the first list does not have. If `documents` is true, the call writes instead the documents that the
-/// first list does not have, with all their leaves.
+/// the leaves that the first list does not have. If `documents` is true, the call instead writes all leaves of each
+/// line whose document is not in the first list.
 ///
 /// # Errors
 ///

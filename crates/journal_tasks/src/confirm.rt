@@ -9,9 +9,9 @@ use line_reader::{LineTask, run_task};
 use script_engine::{ScriptFault, ScriptRead, ScriptWrite};
 use std::alloc::{AllocError, Global};
 
-/// Prints the size and the last block of the longest prefix of a journal that the journal's checksums confirm. For each
-/// document of which the confirmed prefix lacks requested leaves, the task prints the document's last `lacks` line. If
-/// the task is given a sequence, it reports the journal only up to the last confirmed block that has this sequence.
+/// Prints the size and the last block of the longest prefix of a journal that the journal's checksums confirm. If the
+/// confirmed prefix lacks requested leaves of a document, the task prints the document's last `lacks` line. If the
+/// caller gives a sequence, the report ends at the last confirmed block that has this sequence.
 ///
 /// The task holds in memory one block, and the lines that the task prints.
 #[derive(Drop)]
@@ -32,7 +32,7 @@ pub struct Confirm {
     first_leaf: bool,
 }
 
-/// Whether a sequence equals the sequence `at`, or begins with `at` and `-`.
+/// Whether the sequence `seq` equals `at`, or begins with `at` followed by `-`.
 fn is_at(seq: &[u8], at: &[u8]) -> bool {
     let Some(rest) = seq.strip_prefix(at) else {
         return false;
@@ -93,7 +93,7 @@ impl Confirm {
         self.first_leaf && !self.sums
     }
 
-    /// Whether no confirmed block has the sequence that the task is given.
+    /// Whether the caller gave a sequence that no confirmed block has.
     pub fn is_not_found(&self) -> bool {
         self.at.is_some() && self.found.is_none()
     }
@@ -112,7 +112,7 @@ impl Confirm {
         Ok(text)
     }
 
-    /// Whether the last confirmed block has the sequence that the task is given.
+    /// Whether the caller gave a sequence, and the last confirmed block has this sequence.
     fn is_at_seq(&self) -> bool {
         match &self.at {
             Some(at) => is_at(self.blocks.seq(), at.as_slice()),
@@ -131,8 +131,8 @@ impl Confirm {
         }
     }
 
-    /// Returns the number of documents in the current block after a line of the journal. The argument `held` is the
-    /// number of documents in the current block before the line.
+    /// Records the result of reading a line of the journal. The argument `held` is the number of documents in the
+    /// current block, including this line.
     fn settle(&mut self, took: Took, held: u64) -> Result<(), AllocError> {
         match took {
             Took::Held => {

@@ -10,8 +10,9 @@ use json::Scratch;
 use line_reader::LineTask;
 use std::alloc::{AllocError, Global};
 
-/// The rank of a leaf in the order that decides which leaf wins. A live leaf ranks above a deleted leaf. Otherwise, the
-/// leaf with the greater generation ranks higher or, if the generations are equal, the leaf with the greater signature.
+/// The rank of a leaf in the order that decides which leaf wins. A live leaf ranks above a deleted leaf. Of two live or
+/// two deleted leaves, the leaf with the greater generation ranks higher. If two leaves have equal deleted flags and
+/// generations, the leaf with the greater signature ranks higher.
 #[derive(Drop, PartialEq, Eq, PartialOrd, Ord)]
 struct Rank {
     live: bool,
@@ -33,7 +34,8 @@ pub struct Conflicts {
     found: u64,
 }
 
-/// Returns the generation of a revision, and the part of the revision id after the generation.
+/// Splits a revision id at the first `-` into the generation and the signature. If no generation precedes a `-`,
+/// returns 0 and the complete revision id.
 fn parts_of(rev: &str) -> (u64, &str) {
     match rev.split_once('-') {
         Some((number, name)) => match number.parse::<u64>() {
@@ -54,7 +56,8 @@ fn is_ancestor(alloc: Global, leaves: &[Leaf], rev: &str) -> Result<bool, AllocE
     Ok(false)
 }
 
-/// Returns the ranks of those given revisions that are not an ancestor of another given revision, lowest rank first.
+/// Returns the ranks of the revisions in `leaves`, lowest rank first. The result omits each revision that is an
+/// ancestor of another revision in `leaves`.
 fn ranks_of(alloc: Global, leaves: &[Leaf]) -> Result<Vec<Rank>, AllocError> {
     let mut ranks = Vec::new(alloc);
     for (index, leaf) in leaves.iter().enumerate() {
@@ -159,7 +162,7 @@ impl Conflicts {
         }
     }
 
-    /// Returns the number (from 1) of the first input line that does not have a document.
+    /// Returns the number (from 1) of the first input line that is not a valid line of a list of leaves.
     pub fn wrong(&self) -> Option<u64> {
         self.count.wrong
     }

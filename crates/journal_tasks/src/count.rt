@@ -47,7 +47,7 @@ impl Count {
         }
     }
 
-    /// Records that the line that the task read last has a wrong form, unless `right` is true.
+    /// If `right` is false, records that the last counted line has a wrong form.
     pub(crate) fn check(&mut self, right: bool)
         ensures { self.new ≡ counted_as (not right) self.old }
     {
@@ -56,12 +56,11 @@ impl Count {
         }
     }
 
-    /// Records that the input's last line has a wrong form, if the input has bytes after its last line end.
+    /// If the input has bytes after its last line end, counts these bytes as a line that has a wrong form.
     ///
     /// # Errors
     ///
-    /// Returns an error if the input has bytes after its last line end, and the number of lines is already at its
-    /// maximum.
+    /// Returns an error if there are bytes after the last line end, but the number of lines is already at its maximum.
     pub(crate) fn end(&mut self, rest: &[u8]) -> Result<(), AllocError>
         ensures { OnOk result (self.new.wrong ≡ failed_end self.old.wrong self.old.lines rest.now) }
     {
@@ -73,12 +72,12 @@ impl Count {
         Ok(())
     }
 
-    /// Records that the input ends before its second part. The wrong line is the bytes after the last line end or, if
-    /// there are no such bytes, the last counted line.
+    /// Records that the input ends before its second part. If the input has bytes after its last line end, these bytes
+    /// are the wrong line. If the input has no bytes after its last line end, the wrong line is the last counted line.
     ///
     /// # Errors
     ///
-    /// Returns an error if there are bytes after the last line end, and the count is at its maximum.
+    /// Returns an error if there are bytes after the last line end, but the number of lines is already at its maximum.
     pub(crate) fn end_early(&mut self, rest: &[u8]) -> Result<(), AllocError>
         ensures { OnOk result (self.new.wrong
             ≡ option_or (failed_end self.old.wrong self.old.lines rest.now) (Some self.old.lines)) }
@@ -90,7 +89,7 @@ impl Count {
         Ok(())
     }
 
-    /// Whether no line that was read has a wrong form.
+    /// Whether all lines read so far have a correct form.
     pub(crate) fn is_right(&self) -> bool
         ensures { result ≡ is_none self.now.wrong }
     {

@@ -1,4 +1,4 @@
-//! The task that writes a `_revs_diff` request, which asks a server which leaves of a list the server lacks.
+//! The task that writes a `_revs_diff` request. The request asks a server which leaves of a list are missing there.
 ghost use Rattle.std.specs.Prelude.{◌≡◌, ◌++◌, [], ◌∷◌, List, OnErr, OnOk, IfOk, codes, flat_map, map, not, ℕ};
 ghost use Rattle.std.specs.Io.KnownBytes.{Appends};
 ghost use Rattle.json.specs.Token.{string};

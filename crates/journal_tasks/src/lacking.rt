@@ -21,8 +21,8 @@ use line_reader::{LineTask, run_task};
 use script_engine::{ScriptFault, ScriptRead, ScriptWrite};
 use std::alloc::{AllocError, Global};
 
-/// The task's input is a list of leaves, an empty line and a `_revs_diff` response. The task prints a `state` line for
-/// each document of which the `_revs_diff` response names leaves as missing.
+/// The task's input is a list of leaves, an empty line and a `_revs_diff` response. If the response names leaves of a
+/// document as missing, the task prints a `state` line for this document.
 ///
 /// The task holds in memory the list of leaves and the `_revs_diff` response.
 #[derive(Drop)]
@@ -50,7 +50,7 @@ fn strings_of(alloc: Global, items: &[Value<'_>]) -> Result<Option<Vec<String>>,
     Ok(Some(strings))
 }
 
-/// Returns the revisions that the value of a response's member lists as missing, or `None` if the value does not list
+/// Returns the revisions that a response lists as missing for one document. Returns `None` if `value` has no list of
 /// revisions.
 fn missing_at(alloc: Global, value: &Value<'_>) -> Result<Option<Vec<String>>, AllocError>
     ensures { IfOk result (λ o. option_map (λ v. texts_of v.items) o ≡ missing_at (value_view value.now)) }
@@ -73,8 +73,8 @@ fn are_listed(docs: &Docs, id: &str, revs: &[String]) -> bool
     true
 }
 
-/// Adds the missing revisions of a document, which a member of the response lists. Returns true if the member is a list
-/// of revisions, all of which are in the list of leaves.
+/// Adds the revisions that the response lists as missing for the document `id`. Returns true if `value` lists
+/// revisions, and the list of leaves has the document with all these revisions.
 fn add_missing(
     alloc: Global,
     missing: &mut Docs,
@@ -96,8 +96,8 @@ fn add_missing(
     Ok(true)
 }
 
-/// Returns the missing leaves that the members of a response name, or `None` if a member does not list leaves of
-/// `docs`.
+/// Returns the leaves that are missing according to the members of a response. Returns `None` if a member does not list
+/// leaves of `docs`.
 fn missing_among(
     alloc: Global,
     docs: &Docs,
@@ -179,7 +179,7 @@ fn push_doc(
     push_leaves(alloc, text, "state", "-", id, found.as_slice())
 }
 
-/// Appends the state lines of the documents that have missing leaves.
+/// Appends a `state` line for each document that has missing leaves.
 fn push_docs(
     alloc: Global,
     text: &mut Vec<u8>,
@@ -221,8 +221,8 @@ impl Lacking {
         self.count.wrong
     }
 
-    /// Returns true if the second part of the input is missing or is not a `_revs_diff` response, and also if the
-    /// response names a leaf that is not in the list.
+    /// Whether the second part of the input is missing, or the task rejected it. This part must be a `_revs_diff`
+    /// response that names only leaves in the list.
     pub fn is_refused(&self) -> bool
         ensures { result ≡ self.now.refused }
     {
@@ -264,7 +264,7 @@ impl Lacking {
         Ok(())
     }
 
-    /// Appends the state lines of the documents that have missing leaves according to the stored response.
+    /// Appends a `state` line for each document that has missing leaves according to the stored response.
     fn push(&mut self, text: &mut Vec<u8>) -> Result<(), AllocError>
         ensures text { OnOk result (text.new.items ≡ text.old.items ++ missing_lines (docs_view self.old.docs)
             (missing_by (docs_view self.old.docs) self.old.response.items)) }

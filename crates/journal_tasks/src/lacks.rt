@@ -1,13 +1,13 @@
-//! Finds the documents of which a journal does not have all requested leaves.
+//! Finds the documents for which a journal lacks requested leaves.
 use indexmap::IndexMap;
 use journal_lines::{Entry, entry_of};
 use json::Scratch;
 use memchr::memchr;
 use std::alloc::{AllocError, Global};
 
-/// A table of the documents of which a journal does not have all requested leaves. The table of documents has each
-/// document's last `lacks` line, unless a `state` line of the document follows in the journal. A `lacks` line says that
-/// not all requested leaves of a document were received.
+/// A table of the documents for which a journal lacks requested leaves. For each of these documents, the table has the
+/// document's last `lacks` line. If a `state` line of a document follows its `lacks` line in the journal, the table
+/// omits the document. A `lacks` line says that not all requested leaves of a document were received.
 #[derive(Drop)]
 pub(crate) struct Lacks {
     alloc: Global,
@@ -37,8 +37,8 @@ impl Lacks {
     }
 
     /// Reads a `state` line or a `lacks` line of a journal. A `state` line removes the `lacks` line of its document
-    /// from the table of `lacks` lines. A `lacks` line is added at the end of the table of `lacks` lines, instead of an
-    /// earlier `lacks` line of its document.
+    /// from the table of `lacks` lines. A `lacks` line is added at the end of the table, and an earlier `lacks` line of
+    /// its document is removed.
     fn note_entry(&mut self, entry: &Entry, line: &[u8]) -> Result<(), AllocError> {
         match entry {
             Entry::State(leaves) => {

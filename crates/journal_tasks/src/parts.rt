@@ -12,9 +12,9 @@ use line_reader::{LineTask, run_task};
 use script_engine::{ScriptFault, ScriptRead, ScriptWrite};
 use std::alloc::{AllocError, Global};
 
-/// Splits the lines of the input, in order, into parts of at most `most_lines` lines and `most_bytes` bytes. Each part
-/// of the input has at least one line, even if this line alone exceeds a maximum. For each part, the task prints a line
-/// with the part's numbers of lines and bytes, followed by the part's lines.
+/// Splits the lines of the input, in order, into parts of at most `most_lines` lines and `most_bytes` bytes. A part
+/// always has at least one line, even if this line alone exceeds a maximum. For each part, the task prints a line with
+/// the part's numbers of lines and bytes, followed by the part's lines.
 ///
 /// At any time, the task stores only one part of its input in memory.
 #[derive(Drop)]
@@ -27,7 +27,7 @@ pub struct Parts {
     lines: u64,
 }
 
-/// Appends the text for a part, which has the given number of lines and the given bytes.
+/// Appends a line with a part's number of lines and number of bytes, and then the part.
 fn push_part(text: &mut Vec<u8>, lines: u64, part: &[u8]) -> Result<(), AllocError>
     ensures { OnOk result (text.new.items ≡ text.old.items ++ part_text lines part.now) }
 {

@@ -38,10 +38,10 @@ struct Doc {
 type Docs = IndexMap<String, Doc>;
 
 /// The input of the task `received` is the requested leaves, an empty line, and the received documents. The task prints
-/// the requested documents. For each line of the request, the task prints a line that begins with `state` and lists the
-/// received leaves. If a requested leaf in a line of the request was not received, the task also prints a line that
-/// begins with `lacks` and lists the requested leaves. With `only_lacks`, the task prints no documents, and prints only
-/// `state` lines that list the leaves that were not received. The task holds the request in memory.
+/// the requested documents. For each line of the request, the task prints a `state` line with the received leaves. If a
+/// leaf in the request's line was not received, the task also prints a `lacks` line with all leaves of the request's
+/// line. With `only_lacks`, the task prints only `state` lines, which list the leaves that were not received. The task
+/// holds the request in memory.
 #[derive(Drop)]
 pub struct Received {
     alloc: Global,
@@ -165,8 +165,7 @@ fn with_wanted(alloc: Global, doc: Doc, revs: &[String]) -> Result<Doc, AllocErr
     })
 }
 
-/// Returns a document's data after one of the document's leaves was received. In the result, the leaf and its ancestors
-/// are marked as received.
+/// Adds a received leaf to a document. Marks the requested revisions in the leaf's ancestry as received.
 fn with_leaf(alloc: Global, doc: Doc, leaf: &Leaf) -> Result<Doc, AllocError>
     ensures { IfOk result (λ after. doc_view after ≡ with_leaf (leaf_view leaf.now) (doc_view doc)) }
 {
@@ -246,8 +245,8 @@ fn pass_on(text: &mut Vec<u8>, line: &[u8], known: bool, only_lacks: bool) -> Re
     Ok(())
 }
 
-/// Appends the output lines for a line of the request, given the received revisions and the revisions `missing` that
-/// were not received.
+/// Appends the output lines for a line of the request. The argument `received` has the received leaves, and `missing`
+/// has the requested revisions that were not received.
 fn push_told(
     alloc: Global,
     text: &mut Vec<u8>,
@@ -274,7 +273,7 @@ fn push_told(
     push_leaves(alloc, text, "lacks", seq, id, line.revs.as_slice())
 }
 
-/// Appends the output lines for a line of the request. Returns whether a revision that the line requests was not
+/// Appends the output lines for a line of the request. Returns true if the line requests a revision that was not
 /// received.
 fn push_line(
     alloc: Global,
@@ -320,8 +319,8 @@ impl Received {
         }
     }
 
-    /// Returns the number (from 1) of the first input line that has a wrong form or has a document that was not
-    /// requested.
+    /// Returns the number (from 1) of the first wrong input line. A line is wrong if it has a wrong form, or has a
+    /// document that was not requested.
     pub fn wrong(&self) -> Option<u64>
         ensures { result ≡ self.now.count.wrong }
     {
@@ -373,7 +372,7 @@ impl Received {
         Ok(())
     }
 
-    /// Appends the `state` and `lacks` lines of the output for all lines of the request. Returns whether a requested
+    /// Appends the `state` and `lacks` lines of the output for all lines of the request. Returns true if a requested
     /// revision was not received.
     fn push_all(&self, text: &mut Vec<u8>) -> Result<bool, AllocError>
         ensures text { OnOk result (text.new.items ≡ text.old.items
@@ -417,8 +416,8 @@ impl LineTask for Received {
 }
 
 /// Reads the requested leaves, an empty line and the received documents. Writes the requested documents, and says for
-/// each line of the request which leaves were received. If `only_lacks` is true, the call writes only which leaves were
-/// not received.
+/// each line of the request which leaves were received. If `only_lacks` is true, the call writes only the leaves that
+/// were not received.
 ///
 /// # Errors
 ///

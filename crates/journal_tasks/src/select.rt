@@ -24,9 +24,9 @@ pub struct Filter {
     pub unverified: bool,
 }
 
-/// The task's input is two copies of one journal. For each leaf in a document's last state, the task prints the last
-/// line of the journal that has this leaf. The task prints lines only if the journal's checksums confirm the first copy
-/// in the input, or if the option `unverified` is set.
+/// The task's input is two copies of one journal. For each leaf in the last state of a selected document, the task
+/// prints the last journal line that has this leaf. The task prints lines only if the journal's checksums confirm the
+/// first copy in the input, or if the option `unverified` is set.
 ///
 /// The task holds in memory one block, the state of each document, and one entry for each leaf.
 #[derive(Drop)]
@@ -83,8 +83,8 @@ impl Select {
         self.blocks.lines()
     }
 
-    /// Whether the first copy of the journal in the input is damaged. A journal's copy is damaged unless it has exactly
-    /// `size` bytes in complete lines, all of which the journal's checksums confirm. With the option `unverified`, the
+    /// Whether the first copy of the journal in the input is damaged. A copy is undamaged if it has exactly `size`
+    /// bytes in complete lines, and the journal's checksums confirm all these lines. With the option `unverified`, the
     /// task checks only the size of the journal's copy, and not its checksums.
     pub fn is_damaged(&self) -> bool {
         self.damaged
@@ -95,7 +95,7 @@ impl Select {
         self.differs
     }
 
-    /// Whether the last state of a document names a leaf that no line of the journal has.
+    /// Whether the last state of a selected document names a leaf that is missing from the journal's lines.
     pub fn lacks(&self) -> bool {
         self.lacks
     }
@@ -115,7 +115,7 @@ impl Select {
         Ok(())
     }
 
-    /// Reads a line, other than a `sum` line (the end of a block), of the first copy of the journal in the input.
+    /// Reads a line of the journal's first copy. The line must not be a `sum` line, which is the end of a block.
     fn note(&mut self, line: &[u8]) -> Result<(), AllocError> {
         match entry_of(self.alloc, &mut self.scratch, line)? {
             Entry::State(leaves) => self.map.name(leaves),
@@ -128,7 +128,7 @@ impl Select {
         }
     }
 
-    /// Reads a line of the first copy of the journal in the input, which may be a `sum` line.
+    /// Reads a line of the journal's first copy. The line may be a `sum` line, which is the end of a block.
     fn first_line(&mut self, line: &[u8]) -> Result<(), AllocError> {
         if !self.filter.unverified {
             if let Took::Damaged = self.blocks.take(line)? {
@@ -145,8 +145,8 @@ impl Select {
         Ok(())
     }
 
-    /// Checks the first copy of the journal in the input at its end, and selects the lines to print if the copy is not
-    /// damaged.
+    /// Checks the journal's first copy after all of its bytes were read. If the copy is not damaged, selects the lines
+    /// to print.
     fn end_first(&mut self) -> Result<(), AllocError> {
         if self.bytes != self.size || !self.filter.unverified && !self.blocks.is_confirmed() {
             self.damaged = true;
@@ -160,7 +160,7 @@ impl Select {
         Ok(())
     }
 
-    /// Returns the hash of all bytes that were read since the hash began, and begins a new hash.
+    /// Returns the hash of all bytes since the start or the last call of `take_hash`, and begins a new hash.
     fn take_hash(&mut self) -> [u8; 32] {
         let hasher = mem::replace(&mut self.hasher, Sha256::new());
         hasher.finalize()

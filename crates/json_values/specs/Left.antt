@@ -1,6 +1,6 @@
--- Defines the state of a reader of a JSON text. The state has two parts. The first part is the unread text or the
--- unread tokens, and the second part is two flags. One flag says whether all names of members are known to need no
--- escapes. The other flag says the same of all other strings.
+-- Defines the state of a reader of a JSON text. The state has two parts: the unread text or the unread tokens, and two
+-- flags. One flag says whether all names of members are known to need no escapes. Another flag says whether all other
+-- strings are known to need no escapes.
 use Rattle.std.specs.Prelude.{ℕ, List, refl}
 use Rattle.std.specs.Coded.{Coded, code_by, coded×, coded_list, coded_ℕ}
 use Rattle.json.specs.Token.{Token, tokens_code}

@@ -1,6 +1,6 @@
 -- Defines the state of the lexer in contracts: the JSON text from the next lexeme on, and the flags of `PlainTexts`.
--- One flag of `PlainTexts` says whether all names of members are known to need no escapes. The other flag says the same
--- of all other strings.
+-- One flag of `PlainTexts` says whether all names of members are known to need no escapes. Another flag says whether
+-- all other strings are known to need no escapes.
 use Rattle.std.specs.Prelude.{◌≡◌, ℕ, ◌+◌, ◌≤◌, ◌==◌, Bool, List, length, drop, get_or, true}
 use Rattle.std.specs.List.{list_any}
 use Rattle.std.specs.Str.{IsUtf8}

@@ -20,8 +20,8 @@ NotBeforeComma AfterValue text = head text ≢ 44
 NotBeforeComma AfterComma text = ⊤
 NotBeforeComma Failed text = ⊤
 
--- If a value or a name may begin at the start of the text `old`, the token t is the first token of `old`. The tokens of
--- `old` after the token t are the tokens of the text `new`, if `new` is read from the grammar position `place`.
+-- At each grammar position at which a value or a name may begin, the token t is the first token of the text `old`.
+-- After the token t, the tokens of `old` are the tokens of the text `new`, read from the grammar position `place`.
 abbrev pub Begins : List ℕ → Token → Place → List ℕ → Type 0
 Begins old t place new = (p : spec.Place) → may_begin p ≡ true → punctuate p (lex between old) ≡ t ∷ tokens_at place new
 
@@ -69,7 +69,7 @@ of_string (Token.boolean b) = false
 of_string Token.null = false
 of_string Token.bad = true
 
--- The tokens ts do not begin with a complete and valid JSON value, even if values may be nested to any depth.
+-- The tokens ts do not begin with a complete and valid JSON value of any nesting depth.
 abbrev pub BeginsNoValue : List Token → Type 0
 BeginsNoValue ts = (depth : ℕ) → value depth ts ≡ None
 

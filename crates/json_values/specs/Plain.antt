@@ -29,7 +29,7 @@ abbrev mutual
   AreMembersPlain known no_members = ⊤
   AreMembersPlain known (member k d ms) = PlainIf known.names k × ArePlain known d × AreMembersPlain known ms
 
--- Each flag that is true in `new` is also true in `old`.
+-- The flags change from `old` to `new`, and no flag changes from false to true.
 abbrev pub Narrows : PlainTexts → PlainTexts → Type 0
 Narrows old new = (new.names ≡ true → old.names ≡ true) × (new.values ≡ true → old.values ≡ true)
 

@@ -10,8 +10,8 @@ use Rattle.json.specs.declared.token.Token.{Token}
 use Rattle.serde_json.specs.Data.{Num}
 use Rattle.serde_json.specs.Read.{number_of}
 
--- Reading the number or literal at index i of the text d gives the pair r: the token, and the index at which the search
--- for the next lexeme begins. If the pair r is `None`, the text d has no valid number or literal at index i.
+-- The number or literal at index i of the text d gives the pair r: a token, and the index at which the lexer continues.
+-- If the pair r is `None`, there is no valid number or literal at index i of the text d.
 abbrev pub WordAt : List ℕ → ℕ → Option (Token × ℕ) → spec.Token → Type 0
 WordAt d i r w =
     MatchOption r (w ≡ bad) (λ p. (w ≡ token_of p.0) × (is_good w ≡ true) × (i < p.1) × (p.1 ≤ length d) × (lex between (drop p.1 d) ≡ drop 1 (lex between (drop i d))))

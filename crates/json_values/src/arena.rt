@@ -24,9 +24,9 @@ pub(crate) fn array<'a>(
     Ok(LineValue::Array(values.try_alloc_slice_copy(items)?))
 }
 
-/// Returns a slice of the arena that has the given items. If all items are strings and are equal to the items of the
-/// array that was stored last, the call returns the slice of this stored array. If an item is not a string, or the
-/// items differ from the array that was stored last, the call copies the items into the arena.
+/// Returns a slice of the arena that has the given items. If all items are strings and equal the items of the last
+/// stored array, the call returns the slice of the stored array. If the items differ, or if an item is not a string,
+/// the call copies the items into the arena.
 #[inline(never)]
 fn shared<'a>(
     values: &'a Bump,

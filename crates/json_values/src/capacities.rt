@@ -7,18 +7,19 @@ use std::cell::Cell;
 /// most 8 elements.
 const FIRST: u64 = 0x0808_0808_0808_0808;
 
-/// A text of at least `LONG_TEXT` bytes is long. For a long text, saving memory is worth some additional instructions.
+/// A text of at least `LONG_TEXT` bytes is long. For a long text, the reader executes a few more instructions in order
+/// to save memory.
 pub(crate) const LONG_TEXT: usize = 128 * 1024;
 
 /// The maximum initial capacity.
 const MOST: usize = 16;
 
-/// A table of the lengths of the arrays and objects that were read last, by kind and nesting depth. Nesting depths that
-/// are equal modulo 4 share one length in the table.
+/// A table of the lengths of the arrays and objects that were read last, by kind and nesting depth. Depths with the
+/// same remainder modulo 4 share one length in the table.
 ///
-/// In a line of many small objects, objects of the same depth usually have the same number of members. If the initial
-/// capacity of an object is the length of the last object of the same depth, the object usually takes no more memory
-/// than it needs. No contract states the initial capacity of an array or an object.
+/// In a line of many small objects, objects of the same depth usually have the same number of members. An object
+/// therefore usually wastes no memory if its initial capacity is the length of the last object of the same depth. No
+/// contract states the initial capacity of an array or an object.
 #[derive(Drop)]
 pub(crate) struct Capacities {
     /// The eight lengths in a table of capacities, each stored in one byte of an integer.
@@ -49,7 +50,8 @@ impl Capacities {
     }
 }
 
-/// Returns the bit index of the length that a table of capacities has for a kind (array or object) and a nesting depth.
+/// Returns the bit position of a length in the table. The length is for a kind of value (array or object) and a nesting
+/// depth.
 #[inline(always)]
 fn shift_of(is_object: bool, depth: usize) -> u32
     ensures { result < 64 }

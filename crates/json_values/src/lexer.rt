@@ -22,8 +22,8 @@ use json::Token;
 use serde_json::Number;
 use std::marker::Model;
 
-/// A JSON text and the position up to which it has been read. Contract clauses describe a lexer by the text from the
-/// next lexeme on.
+/// A JSON text and the position up to which it has been read. Contracts represent a lexer by the text from the next
+/// lexeme on, and by the flags (`PlainTexts`).
 #[derive(Drop)]
 pub(crate) struct Lexer<'a> {
     text: &'a str,
@@ -79,7 +79,7 @@ impl<'a> Lexer<'a> {
         byte_at(self.text.as_bytes(), self.at)
     }
 
-    /// Whether the text is so long that the capacities of its arrays and objects take much memory.
+    /// Whether the text has at least `LONG_TEXT` bytes.
     #[inline(always)]
     pub(crate) fn is_long(&self) -> bool {
         self.text.len() >= LONG_TEXT
@@ -158,8 +158,8 @@ impl<'a> Lexer<'a> {
         Some(&text[start..stop])
     }
 
-    /// Reads the content of a string with escapes. The argument `after` is the first backslash or control byte after
-    /// the opening quotation mark, or a space if the text ends first.
+    /// Reads the content of a string with escapes. The argument `after` is the first backslash or control byte in the
+    /// string. If the text ends before such a byte, `after` is a space.
     #[inline(never)]
     fn escaped_string(&mut self, after: u8) -> Option<&'a str>
         requires quote { head self.old.text ≡ 34 }

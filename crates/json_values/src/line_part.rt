@@ -12,9 +12,8 @@ use crate::line::LineValue;
 use crate::plain_texts::PlainTexts;
 use std::marker::Model;
 
-/// A line that was read: a JSON value, and flags that say which of its strings are known to need no escapes. Contract
-/// clauses describe a `Line` by its JSON value. The members of each object in the line are in byte order of their
-/// names.
+/// A line that was read: a JSON value, and flags that say which of its strings are known to need no escapes. Contracts
+/// represent a `Line` by its JSON value. The members of each object in the line are in byte order of their names.
 #[derive(Drop)]
 pub struct Line<'a> {
     value: LineValue<'a>,
@@ -96,8 +95,8 @@ impl<'a> Line<'a> {
     }
 }
 
-/// A JSON value inside a line. Contract clauses describe a `LinePart` by its JSON value. The members of each object in
-/// the line are in byte order of their names.
+/// A JSON value inside a line. Contracts represent a `LinePart` by its JSON value. The members of each object in the
+/// line are in byte order of their names.
 #[derive(Drop)]
 pub struct LinePart<'v, 'a> {
     value: &'v LineValue<'a>,
@@ -141,12 +140,12 @@ impl<'v, 'a> LinePart<'v, 'a> {
         self.plain
     }
 
-    /// Returns the length of the complete line's text in bytes, or 0 if the text is shorter than `LONG_TEXT`. If each
-    /// number in a JSON value of the line is an i64 or a u64, the value's compact form is at most as long as the line's
+    /// Returns the length of the complete line's text in bytes, or 0 if the text is shorter than `LONG_TEXT`. If all
+    /// numbers in a JSON value are of type `i64` or `u64`, the value's compact form is at most as long as the line's
     /// text.
     ///
-    /// The contract of `long_len` states only bounds of the length, because callers use the length only to reserve
-    /// capacity.
+    /// Callers use the length only to reserve capacity. The contract of `long_len` therefore says only that the result
+    /// is 0 or at least `LONG_TEXT`.
     #[inline(always)]
     pub fn long_len(&self) -> usize
         ensures { (result ≡ 0) ⊎ (LONG_TEXT ≤ result) }

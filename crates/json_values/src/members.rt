@@ -12,15 +12,15 @@ use std::cmp::Ordering;
 use std::collections::BTreeMap;
 use std::mem;
 
-/// The minimum length of a list of members that is converted to a map before a member is inserted out of order.
+/// A list of at least `FEW` members becomes a map before a member is inserted out of order.
 const FEW: usize = 64;
 
 /// The members of an object, in which each name occurs once.
 #[derive(Drop)]
 pub(crate) enum Members<'a, T> {
-    /// A list of members, which is used if the members are few or if they came in order of their names.
+    /// A list of members, for objects with few members, and for members that came in order of their names.
     Listed(Vec<(&'a str, T), &'a Bump>),
-    /// A map of members, which replaces a list of at least `FEW` members as soon as a member comes out of order.
+    /// A map of members. The map replaces a list of at least `FEW` members when the next member is out of order.
     Mapped(BTreeMap<&'a str, T>),
 }
 
@@ -56,7 +56,7 @@ impl<'a, T: Drop> Members<'a, T> {
     }
 
     /// Whether a list of members must become a map before a member is inserted. A list becomes a map if it has at least
-    /// `FEW` members, unless the new name is greater than all names in the list.
+    /// `FEW` members and the new name is not greater than the list's last name.
     #[inline(always)]
     fn is_full(&self, name: &str) -> bool
         requires { IsRising (entries_of self.now) }
@@ -143,8 +143,8 @@ fn put_listed<'a, T: Drop>(
     }
 }
 
-/// Moves the last member to an index by repeated swaps with the member before it. Few swaps are needed, because members
-/// usually come nearly in order of their names.
+/// Moves the last member to the index `place`. The call repeatedly swaps this member with its predecessor. Few swaps
+/// are needed, because members usually come nearly in order of their names.
 #[inline(always)]
 fn move_last<'a, T>(entries: &mut Vec<(&'a str, T), &'a Bump>, place: usize)
     requires { place < length entries.old.items }
@@ -197,7 +197,7 @@ fn order_behind(a: &str, b: &str) -> Ordering
     a.cmp(&b)
 }
 
-/// Whether a member with the given name goes after all other members.
+/// Whether the given name is greater than all names in the list.
 #[inline(always)]
 fn comes_last<T>(entries: &[(&str, T)], name: &str) -> bool
     requires { IsRising entries.now }

@@ -8,7 +8,7 @@ ghost use Rattle.serde_json.specs.View.{number_view};
 use fast_float::Numeral;
 use serde_json::Number;
 
-/// The greatest number to which `few_digits` appends another digit.
+/// The function `few_digits` appends another digit only to numbers up to `FULL`.
 const FULL: u64 = 1_000_000_000_000_000_000;
 
 /// Parses the text of a number, if the number is in the range of a float.

@@ -8,13 +8,13 @@ ghost use Rattle.json_values.specs.Plain.{Narrows};
 pub struct PlainTexts {
     /// Whether the names of all members are known to need no escapes.
     pub names: bool,
-    /// Whether all strings of the line that are not names of members are known to need no escapes.
+    /// Whether all strings of the line, except members' names, are known to need no escapes.
     pub values: bool,
 }
 
 impl PlainTexts {
-    /// Clears the flag `names` after reading a member's name with escapes, or the flag `values` after reading any other
-    /// string with escapes.
+    /// Returns the flags after a string with escapes was read. The call clears the flag `names` if the string is a
+    /// member's name, and otherwise the flag `values`.
     pub(crate) fn with_escaped(self, is_name: bool) -> PlainTexts
         ensures narrows { Narrows self result }
         ensures name { is_name ≡ true → result.names ≡ false }

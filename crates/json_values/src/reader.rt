@@ -19,9 +19,8 @@ use std::alloc::{AllocError, Global};
 /// The maximum nesting depth.
 const MAX_DEPTH: usize = 127;
 
-/// A reader of JSON values, which reuses one buffer for all values. If a text is longer than the buffer, the buffer
-/// grows to the text's length, except for texts of at least 128 KiB without a backslash. The result of a read does not
-/// depend on earlier reads.
+/// A reader of JSON values, which reuses one buffer for all values. The buffer grows to the length of a longer text,
+/// unless the text has at least 128 KiB and no backslash. The result of a read does not depend on earlier reads.
 #[derive(Drop)]
 pub struct ValueReader {
     /// The buffer for unescaped strings.
@@ -67,7 +66,7 @@ impl ValueReader {
     }
 }
 
-/// Grows the buffer to at least the length of a text, unless the text is long and has no backslash. A text without a
+/// Makes the buffer at least as long as a text, unless the text is long and has no backslash. A text without a
 /// backslash has no strings to unescape.
 fn make_room(room: &mut Vec<u8>, text: &str) -> Result<(), AllocError>
     ensures ok { OnOk result (has_backslash text.now ≡ true → length text.now ≤ length room.new.items) }

@@ -50,13 +50,15 @@ impl Place {
     }
 }
 
-/// The tokens of a JSON text. Contract clauses describe a token reader by the tokens that it has not read yet.
+/// The tokens of a JSON text. Contracts represent a token reader by the tokens that it has not read yet, and by the
+/// flags (`PlainTexts`).
 #[derive(Drop)]
 pub(crate) struct Tokens<'a> {
     lexer: Lexer<'a>,
     place: Place,
     capacities: Capacities,
-    /// The array that the reader of a long JSON text stored last, so that an equal next array can share its memory.
+    /// The array that the reader stored last, if the text is long. An equal next array can share the memory of this
+    /// array.
     last_array: Cell<&'a [LineValue<'a>]>,
 }
 
@@ -109,7 +111,7 @@ fn string<'a>(lexer: &mut Lexer<'a>) -> (Token<'a>, Place)
     }
 }
 
-/// Reads the token that begins with byte `c`, at a position at which a value or a name may begin.
+/// Reads the token with the first byte `c`. A value or a name may begin at this position.
 #[inline(always)]
 fn begin<'a>(lexer: &mut Lexer<'a>, c: u8) -> (Token<'a>, Place)
     requires first { (head lexer.old.text ≡ c) × (is_blank (class c) ≡ false) }
@@ -255,8 +257,9 @@ impl<'a> Tokens<'a> {
         None
     }
 
-    /// Reads the next token if it is a string. If the next token is not a string, the call returns `None` and reads
-    /// nothing. Returns `Invalid` if no value begins with the next token.
+    /// Reads the next token if it is a string. The call returns `None` and reads nothing if the next byte is not a
+    /// quotation mark, or if no value may begin here. Returns `Invalid` if the next token is a name or an invalid
+    /// string, because no value begins with this token.
     #[inline(always)]
     pub(crate) fn take_text(&mut self) -> Result<Option<&'a str>, Invalid>
         ensures text { MatchResult result
@@ -309,10 +312,11 @@ impl<'a> Tokens<'a> {
         true
     }
 
-    /// Returns the initial capacity of an array or object, before its first element is read. The initial capacity is 0
-    /// for an empty array or object, and 8 for any other array or object of a short text. In a long text, the initial
-    /// capacity is the last length for the same kind (array or object) and nesting depth (modulo 4), but at most 16.
-    /// The initial capacity is 8 if a long text has had no array or object of the same kind and nesting depth yet.
+    /// Returns the initial capacity of an array or object, before its first element is read. An empty array or object
+    /// has the initial capacity 0. Any other array or object in a short text has the initial capacity 8. In a long
+    /// text, the initial capacity is the length of the last value of the same kind (array or object) and depth (modulo
+    /// 4). If this length exceeds 16, the capacity is 16. The first value of a kind and depth (modulo 4) in a long text
+    /// has the initial capacity 8.
     #[inline(always)]
     pub(crate) fn room(&self, is_object: bool, depth: usize) -> usize {
         let next = self.lexer.peek();
@@ -339,8 +343,8 @@ impl<'a> Tokens<'a> {
         self.lexer.is_long()
     }
 
-    /// Returns the array that was the argument of the last call of `note_array`. `last_array` has no contract about the
-    /// array that it returns.
+    /// Returns the array that was the argument of the last call of `note_array`. No contract says which array the call
+    /// returns.
     pub(crate) fn last_array(&self) -> &'a [LineValue<'a>] {
         self.last_array.get()
     }

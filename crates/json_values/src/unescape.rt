@@ -19,10 +19,9 @@ fn append(out: &mut [u8], at: usize, bytes: &[u8])
     out[at..at + bytes.len()].copy_from_slice(bytes);
 }
 
-/// Copies the bytes of a text from index `from` up to, but not including, index `to` into a buffer, at index `at`. The
-/// call copies complete SIMD vectors of 32 bytes, if text and buffer both have at least 32 bytes after the copied
-/// bytes. By copying complete SIMD vectors, the call may also overwrite up to 31 bytes of the buffer after the copied
-/// bytes.
+/// Copies the bytes `from..to` of a text into a buffer, at index `at`. If the text and the buffer each have at least 32
+/// bytes after the copied bytes, the call copies SIMD vectors of 32 bytes. The last vector may overwrite up to 31 bytes
+/// of the buffer after the copied bytes.
 #[inline(always)]
 fn append_run(out: &mut [u8], at: usize, text: &[u8], from: usize, to: usize)
     requires { (from ≤ to) × (to ≤ length text.now) × (at + (to - from) ≤ length out.old) }

@@ -11,7 +11,7 @@ use crate::run::{byte_at, digits_end};
 use json::Token;
 use serde_json::Number;
 
-/// The greatest number to which `digits_sum` appends another digit.
+/// The function `digits_sum` appends another digit only to numbers up to `FULL`.
 const FULL: u64 = 100_000_000_000_000_000;
 
 /// Whether a byte ends a number or a literal.

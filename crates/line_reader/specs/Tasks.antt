@@ -57,10 +57,10 @@ abbrev pub HasDone : {S : Type 0} → Steps S → Steps S → S → Option (List
     → Type 0
 HasDone steps ends start taken taken' held state held' = IsDoneOn steps ends start (Appends taken taken') held state held'
 
--- The bytes `front` are a prefix of the text that a task in the given state appends next. The bytes `rest` are the part
--- of the input that the task has not read yet. If `at_end` is true, the bytes `front` are a prefix of the text that the
--- task appends for the input's end. If `at_end` is false, the bytes `front` are empty, or are a prefix of the text that
--- the task appends for the next line.
+-- The list of bytes `front` is a prefix of the text that a task in the given state appends next. The bytes `rest` are
+-- the part of the input that the task has not read yet. If `at_end` is true, the list `front` is a prefix of the text
+-- that the task appends at the end of the input. If `at_end` is false, the list `front` is empty, or is a prefix of the
+-- text that the task appends for the next line.
 abbrev pub IsFront : {S : Type 0} → Bool → Steps S → Steps S → S → List ℕ → List ℕ → Type 0
 IsFront {S} true steps ends state rest front =
     (back : List ℕ) × (new : S) × (has_line_end rest ≡ false) × ends state rest (front ++ back) new
@@ -69,9 +69,9 @@ IsFront {S} false steps ends state rest front =
     ⊎ ((line after back : List ℕ) × (new : S) × (rest ≡ line ++ 10 ∷ after) × (has_line_end line ≡ false)
     × steps state line (front ++ back) new)
 
--- After an error stopped a task, the writer has the text that the task appended for the input's first lines, and then
--- the bytes `front`. The bytes `front` are a prefix of the text that the task would append for the next line, or for
--- the input's end (`IsFront`). The predicate `given` is true of the input that was read.
+-- If an error stopped a task, the writer has accepted the task's complete text for the input's first lines, and then
+-- the bytes `front`. The list `front` is a prefix of the text that the task appends for the next line, or at the
+-- input's end (`IsFront`). The predicate `given` is true of the input that was read.
 pub record IsStoppedOn {S : Type 0} (at_end : Bool) (steps ends : Steps S) (start : S) (given : List ℕ → Type 0)
     (held held' : Option (List ℕ)) : Type 0 where
   pub input : List ℕ
@@ -87,8 +87,8 @@ pub record IsStoppedOn {S : Type 0} (at_end : Bool) (steps ends : Steps S) (star
   pub is_front : IsFront at_end steps ends state rest front
   pub written : Appends held held' (text ++ front)
 
--- An error stopped a task. The statement `ended` says that the input has ended. If `ended` is false, the writer has no
--- part of the text that the task appends for the input's end.
+-- An error stopped a task. The statement `ended` says that the input has ended. If `ended` is false, the writer has not
+-- accepted any text that the task appends at the end of the input.
 abbrev pub HasStopped : {S : Type 0} → Steps S → Steps S → S → Type 0 → Option (List ℕ) → Option (List ℕ) → Option (List ℕ)
     → Option (List ℕ) → Type 0
 HasStopped steps ends start ended taken taken' held held' =
@@ -96,13 +96,13 @@ HasStopped steps ends start ended taken taken' held held' =
 
 -- ---- output determined by lines
 
--- The type of a statement about three values: the lines that a task has read, the text that the task has appended, and
--- the task's state.
+-- The type of a statement about the lines that a task has read, the text that the task has appended, and the task's
+-- state.
 abbrev pub Kept : Type 0 → Type 1
 Kept S = List (List ℕ) → List ℕ → S → Type 0
 
--- The type of a statement about a task that has read its complete input. The statement is about four values: the
--- input's lines, the bytes after the last line end, the task's text, and the task's state.
+-- The type of a statement about a task that has read its complete input. The statement's parameters are the input's
+-- lines, the bytes after the last line end, the task's text, and the task's state.
 abbrev pub Ended : Type 0 → Type 1
 Ended S = List (List ℕ) → List ℕ → List ℕ → S → Type 0
 
@@ -112,20 +112,21 @@ abbrev pub StepsBy : {S : Type 0} → Kept S → Steps S
 StepsBy {S} kept old line added new =
     (lines : List (List ℕ)) (text : List ℕ) → kept lines text old → kept (lines ++ line ∷ []) (text ++ added) new
 
--- The step that a task makes at the input's end: if the statement `kept` is true before the task reads the end, the
--- statement `ended` is true afterwards.
+-- A task's step at the end of the input: if the statement `kept` is true before the step, the statement `ended` is true
+-- afterwards.
 abbrev pub EndsBy : {S : Type 0} → Kept S → Ended S → Steps S
 EndsBy {S} kept ended old rest added new =
     (lines : List (List ℕ)) (text : List ℕ) → kept lines text old → ended lines rest (text ++ added) new
 
--- At the end of the given input, the statement `ended` is true of the complete output `text` and the task's state.
+-- After the task has read the complete input, the statement `ended` is true of the input, the output `text` and the
+-- task's state.
 abbrev pub HasPrinted : {S : Type 0} → Ended S → List ℕ → List ℕ → S → Type 0
 HasPrinted {S} ended input text state =
     (lines : List (List ℕ)) × (rest : List ℕ) × AreLines input lines rest × ended lines rest text state
 
--- If an error stopped a task, its output `text` is a prefix of the output for the input's first n lines, for a number
--- n. If the task had read the complete input (the statement `all`), its output `text` may also be any prefix of the
--- output for the complete input.
+-- After an error, the task's output `text` is a prefix of the output for the first n lines of the input, for some
+-- number n. If the statement `all` is true (the task had read the complete input), `text` may also be a prefix of the
+-- complete output.
 abbrev pub HasPrintedPart : {S : Type 0} → Kept S → Ended S → Type 0 → List ℕ → List ℕ → Type 0
 HasPrintedPart {S} kept ended all input text =
     ((lines : List (List ℕ)) × (rest back : List ℕ) × (state : S) × (input ≡ joined lines ++ rest)

@@ -19,7 +19,7 @@ struct Progress {
     text: Vec<u8>,
 }
 
-/// Passes the current line, which has ended, to the task, and writes the text that the task appends.
+/// Passes the current line to the task at the line's end, and writes the text that the task appends.
 fn end_line<T: LineTask, W: ScriptWrite>(
     task: &mut T,
     progress: &mut Progress,
@@ -51,7 +51,8 @@ fn take_in(progress: &mut Progress, bytes: &[u8]) -> Result<(), AllocError>
     progress.begun.extend_from_slice(bytes)
 }
 
-/// Passes to the task each line whose line end is in the given bytes, and writes the text that the task appends.
+/// Processes the next bytes of the input. If a line ends in these bytes, passes the line to the task, and writes the
+/// text that the task appends.
 fn feed<T: LineTask, W: ScriptWrite>(
     task: &mut T,
     progress: &mut Progress,
@@ -112,9 +113,8 @@ fn finish<T: LineTask, W: ScriptWrite>(
 /// `Write` if the writer failed in this call. Returns `Memory` if an allocation failed, or if a count of the task is at
 /// its maximum.
 ///
-/// After an error, the writer has accepted the task's complete output for the first n lines of the input, for some n.
-/// After an error, the last bytes that the writer accepted may be an incomplete output for the input's next line or for
-/// the input's end.
+/// After an error, the writer has accepted the task's complete output for zero or more of the input's first lines.
+/// After an error, the writer may also have accepted a part of the output for the next line or for the input's end.
 pub fn run_task<T: LineTask, R: ScriptRead, W: ScriptWrite>(
     alloc: Global,
     task: &mut T,

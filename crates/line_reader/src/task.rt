@@ -5,17 +5,17 @@ use std::alloc::AllocError;
 
 /// A task that reads the lines of an input in order, and appends text.
 pub trait LineTask {
-    // The relation that defines how reading a line changes the task's state, and which text the task appends for the
-    // line. The relation's arguments are the task's state before the line, the line without the line end, the appended
-    // text, and the task's state after the line.
+    // The relation that defines the effect of a line: the task's new state, and the text that the task appends. The
+    // relation has four arguments: the state before the line, the line without its line end, the appended text, and the
+    // state after the line.
     ghost steps: { Self → List ℕ → List ℕ → Self → Type 0 };
 
-    // The relation that defines how the input's end changes the task's state, and which text the task appends for the
-    // input's end. The relation has four arguments: the task's state before the input's end is processed, the bytes
-    // after the last line end, the appended text, and the task's state afterwards.
+    // The relation that defines the effect of the input's end: the task's new state, and the text that the task
+    // appends. The relation has four arguments: the state before the input's end, the bytes after the last line end,
+    // the appended text, and the state after the input's end.
     ghost ends: { Self → List ℕ → List ℕ → Self → Type 0 };
 
-    /// Reads a line, given without its line end, and appends the task's output for the line to `text`.
+    /// Reads a line without its line end, and appends the task's output for the line to `text`.
     ///
     /// # Errors
     ///
@@ -24,8 +24,7 @@ pub trait LineTask {
         requires empty { text.old.items ≡ [] }
         ensures { OnOk result (steps self.old line.now text.new.items self.new) };
 
-    /// Reads the input's end, given as the bytes after the last line end, and appends the task's output for the end to
-    /// `text`.
+    /// Reads the bytes `rest` after the last line end, and appends to `text` the task's output for the input's end.
     ///
     /// # Errors
     ///

@@ -7,7 +7,7 @@ ghost use Rattle.script_engine.specs.Faults.{IsFaultOf};
 use script_engine::{Chunks, ScriptFault, ScriptRead};
 use std::alloc::Global;
 
-/// Reads from a reader until its end, and returns all bytes that were read.
+/// Reads all remaining bytes of a reader, and returns these bytes.
 ///
 /// # Errors
 ///

@@ -40,16 +40,16 @@ columns_of tables.Info =
 columns_of tables.Session =
     columns.From ∷ columns.To ∷ columns.Checked ∷ columns.Found ∷ columns.Read ∷ columns.Written ∷ columns.Failed ∷ []
 
--- The text `text` consists of `front` and then the column `column`, whose number is n.
+-- The text `text` is `front` followed by the column `column` with the number n.
 pub record EndsIn (column : Column) (n : ℕ) (front text : List ℕ) : Type 0 where
   pub word : List ℕ
   pub lacks_blank : lacks 32 word ≡ true
   pub form : text ≡ front ++ named (column_text column) word
   pub number : IsNumber word n
 
--- The text `text` is `front`, followed by the columns of the list `columns`. The columns show the numbers of the list
--- `numbers`. The lists `columns` and `numbers` are in reverse order: both begin with the item for the text's last
--- column.
+-- The text `text` is `front` followed by the columns of the list `columns`. The list `numbers` has the number of each
+-- column, at the column's index. The lists `columns` and `numbers` are in reverse order: the first item of each list is
+-- for the last column of the text.
 abbrev pub Ends : List Column → List ℕ → List ℕ → List ℕ → Type 0
 Ends columns numbers front text = InTurn EndsIn columns numbers front text
 

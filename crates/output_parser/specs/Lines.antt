@@ -14,7 +14,8 @@ use Rattle.output_parser.specs.declared.told.Table.{Table}
 use Rattle.output_parser.specs.declared.told.Told.{Told}
 use Rattle.output_parser.specs.declared.told.Told.TheVariants as told
 
--- A line `doc ID winner REV leaves N revs N`, in which the id is the text between `doc` and the last six words.
+-- A line `doc ID winner REV leaves N revs N`. The id is the text between `doc` and the last six words, because an id
+-- may contain blanks.
 pub record IsDocLine (line id : List ℕ) (count : ℕ) : Type 0 where
   pub winner : List ℕ
   pub leaves : List ℕ
@@ -61,14 +62,14 @@ pub record IsListed (word line id : List ℕ) (revs : List RevId) : Type 0 where
   pub parts : ListedParts word line id list
   pub listed : IsRevs list revs
 
--- The beginning of a line `missing ID REVS`, `contradicts ID REV` or `differs ID REVS`: the line's first word and the
--- blank after this word.
+-- The first word of a line `missing ID REVS`, `contradicts ID REV` or `differs ID REVS`, with the blank after this
+-- word.
 abbrev pub finding_text : Finding → List ℕ
 finding_text findings.Missing = codes "missing "
 finding_text findings.Contradicts = codes "contradicts "
 finding_text findings.Differs = codes "differs "
 
--- The line does not report the given finding of `compare`.
+-- The line is not an output line of `compare` with the given finding: missing, contradicting or differing revisions.
 abbrev pub NoFinding : List ℕ → Finding → Type 0
 NoFinding line finding = (id : List ℕ) (revs : List RevId) → IsListed (finding_text finding) line id revs → ⊥
 

@@ -34,7 +34,7 @@ all_members =
     members.Failed ∷ members.Read ∷ members.Written ∷ members.End ∷ members.EndTime ∷ members.Checked ∷ members.Found
     ∷ members.Recorded ∷ members.Session ∷ members.Start ∷ members.StartTime ∷ []
 
--- The text begins with a session's member that has the given value, and `after` is the text that follows the member.
+-- The text is a session's member with the given value, followed by the text `after`.
 pub record IsMember (member : Member) (value after text : List ℕ) : Type 0 where
   pub form : text ≡ member_text member ++ (value ++ member_end member ∷ after)
   pub lacks_end : lacks (member_end member) value ≡ true
@@ -63,7 +63,7 @@ pub record Values (values : List (List ℕ)) (e : Logged) : Type 0 where
   pub session_utf8 : IsUtf8 e.session
   pub begun_utf8 : IsUtf8 e.begun
 
--- The text begins with the session e of a log, and `after` is the text after the session's closing brace.
+-- The text is the session e of a log, up to the session's closing brace, followed by the text `after`.
 pub record IsEntry (e : Logged) (after text : List ℕ) : Type 0 where
   pub values : List (List ℕ)
   pub listed : InTurn IsMember all_members values (125 ∷ after) text
@@ -84,8 +84,8 @@ abbrev pub AreEntries : List Logged → List ℕ → List ℕ → Type 0
 AreEntries [] rest text = ⊥
 AreEntries (e ∷ es) rest text = (after : List ℕ) × IsEntry e after text × AreFurther es rest after
 
--- The text begins with the given sessions of a log, the closing bracket of the list of sessions, and the log's next
--- members up to the value of `session_id`.
+-- The text begins with the given sessions of a log. After the sessions come the closing bracket of their list, and the
+-- log's next members up to the value of `session_id`.
 pub record IsHistory (text : List ℕ) (entries : List Logged) : Type 0 where
   pub tail : List ℕ
   pub listed : AreEntries entries (codes "],\"replication_id_version\":3,\"session_id\":\"" ++ tail) text

@@ -18,8 +18,8 @@ is_of_changes line =
     || begins line (codes "last ") || begins line (codes "backed ") || begins line (codes "restored ")
     || begins line (codes "conflicts ")
 
--- Whether the line begins as a line about a session or an audit, or as an error line. The line `clean`, which the
--- command `audit` prints, counts as a line about an audit, but longer lines that begin with `clean` do not.
+-- Whether the line begins as a line about a session or an audit, or as an error line. The line `clean` of the command
+-- `audit` counts as a line about an audit, but a longer line that begins with `clean` does not count.
 abbrev pub is_of_sessions : List ℕ → Bool
 is_of_sessions line =
     bytes_eq line (codes "clean") || begins line (codes "progress ") || begins line (codes "stopped ")
@@ -30,7 +30,7 @@ is_of_sessions line =
 abbrev pub is_document : List ℕ → Bool
 is_document line = begins line (codes "{\"_id\":\"") && not (begins line (codes "{\"_id\":\"_local/"))
 
--- Whether the line begins like one of the lines that `couch_replicate` prints and pictures do not show.
+-- Whether the line begins like an output line of `couch_replicate` that is not shown in pictures.
 abbrev pub is_undrawn : List ℕ → Bool
 is_undrawn line = is_of_changes line || is_of_sessions line || is_document line
 

@@ -21,9 +21,9 @@ pub record IsRevs (text : List ℕ) (revs : List RevId) : Type 0 where
   pub listed : slice_split (λ b. b == 44) text ≡ map rev_text revs
   pub each : AllByRecursion IsRev revs
 
--- If the items of a list are removed in order from a text, the text `rest` is left. Each item of the list has a value,
--- at the same index in a second list. For an item t with the value v, `Step t v after text` says that the text `after`
--- is left if the item is removed from `text`.
+-- If the items of a list are removed from a text, in order, the text `rest` remains. A second list has the value of
+-- each item, at the item's index. `Step t v after text` says that the text `after` remains if item t with the value v
+-- is removed from `text`.
 abbrev pub InTurn : {T V : Type 0} → (T → V → List ℕ → List ℕ → Type 0) → List T → List V → List ℕ → List ℕ → Type 0
 InTurn Step [] [] rest text = text ≡ rest
 InTurn Step [] (v ∷ vs) rest text = ⊥

@@ -44,9 +44,8 @@ pub fn before<'a>(text: &'a [u8], end: &[u8]) -> Option<&'a [u8]>
     text.strip_suffix(end)
 }
 
-/// Splits a text that ends with a given name, then a space, and then a part without spaces. Returns the text before
-/// `name`, and the part without spaces at the end of the text. Returns `None` if the text does not end with the name, a
-/// space, and a part without spaces.
+/// Splits a text that ends with the name `name`, a space, and a part without spaces. Returns the text before `name`,
+/// and the part without spaces. Returns `None` if the text does not have this form.
 pub fn cut_named<'a>(text: &'a [u8], name: &[u8]) -> Option<(&'a [u8], &'a [u8])>
     ensures some { IfSome result
         (λ x. (text.now ≡ x.0.now ++ (name.now ++ 32 ∷ x.1.now)) × (lacks 32 x.1.now ≡ true)) }

@@ -17,7 +17,7 @@ use std::alloc::{AllocError, Global};
 use std::str;
 
 /// Parses a line of a script's output (docs/PROFILE.md, "Answers" and "Pictures"). The call returns a variant of `Told`
-/// exactly if the line has the variant's format.
+/// if and only if the line has the format of this variant.
 pub fn read_line(alloc: Global, line: &[u8]) -> Result<Told, AllocError>
     ensures { IfOk result (λ told. Tells line.now told) }
 {
@@ -63,8 +63,8 @@ fn read_more(alloc: Global, line: &[u8]) -> Result<Told, AllocError>
     }
 }
 
-/// Parses a line that pictures do not show. Returns `Other` if `couch_replicate` prints such lines, and otherwise
-/// `Unknown`.
+/// Parses a line that pictures do not show. Returns `Other` if the line begins like a line that `couch_replicate`
+/// prints, and otherwise `Unknown`.
 fn other_of(line: &[u8]) -> Told
     ensures { result ≡ other_of line.now }
 {

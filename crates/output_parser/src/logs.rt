@@ -28,8 +28,8 @@ pub fn read_log(alloc: Global, line: &[u8]) -> Result<Option<Log>, AllocError>
 }
 
 /// Parses the start of a log. Returns the replication id, and the text after the opening bracket of the list of
-/// sessions. Returns `None` if the line does not begin with `{"_id":"_local/ID","history":[`, with a replication id ID
-/// in UTF-8.
+/// sessions. Returns `None` unless the line begins with `{"_id":"_local/ID","history":[` and the replication id ID is
+/// UTF-8.
 fn log_head(line: &[u8]) -> Option<(&str, &[u8])>
     ensures some { IfSome result (λ x. IsHead line.now x.0.now x.1.now) }
     ensures none { IfNone result ((id text : List ℕ) → IsHead line.now id text → ⊥) }
@@ -107,8 +107,8 @@ fn read_values<'a>(
     Ok(Some((values, rest)))
 }
 
-/// Parses a given member at the start of a text. Returns the member's value, and the text after the member. Returns
-/// `None` if the text does not start with the given member.
+/// Parses the member `member` at the start of a text. Returns the member's value, and the text after the member.
+/// Returns `None` if the text does not start with the given member.
 fn cut_member(text: &[u8], member: Member) -> Option<(&[u8], &[u8])>
     ensures some { IfSome result (λ x. IsMember member x.0.now x.1.now text.now) }
     ensures none { IfNone result ((value after : List ℕ) → IsMember member value after text.now → ⊥) }
@@ -171,7 +171,7 @@ fn texts<'a>(values: &[&'a [u8]]) -> Option<(&'a str, &'a str)>
     }
 }
 
-/// Given the values of a session's members, returns the numbers of failed writes, read documents and written documents.
+/// Parses the numbers of failed writes, read documents and written documents from the values of a session's members.
 fn counts(values: &[&[u8]]) -> Option<(u64, u64, u64)>
     ensures some { IfSome result (λ x. IsNumber (get_or (texts_of values.now) 0 []) x.0 × IsNumber (get_or (texts_of values.now) 1 []) x.1
         × IsNumber (get_or (texts_of values.now) 2 []) x.2) }

@@ -44,7 +44,7 @@ pub fn read_revs(alloc: Global, text: &[u8]) -> Result<Option<Vec<Rev>>, AllocEr
     Ok(Some(revs))
 }
 
-/// Whether the generation of each revision in a list is one more than the generation of the next revision.
+/// Whether the generations of the revisions in a list fall by one from each revision to the next.
 pub fn falls_by_one(revs: &[Rev]) -> bool
     ensures yes { result ≡ true → FallsByOne revs.now }
     ensures no { result ≡ false → FallsByOne revs.now → ⊥ }

@@ -99,8 +99,8 @@ fn cut_column(text: &[u8], column: Column) -> Option<(&[u8], u64)>
     }
 }
 
-/// Parses `front`, the text before the columns of a line of numbers, and returns the name in `front`. Returns `None` if
-/// `front` is not the beginning of a line of the kind `table`, or if the name in `front` is not UTF-8.
+/// Returns the name in `front`, the text before the columns of a line of numbers. Returns `None` if `front` cannot
+/// begin a line of the kind `table`, or if the name in `front` is not UTF-8.
 fn name_of(front: &[u8], table: Table) -> Option<&str>
     ensures some { IfSome result (λ name. IsFront table name.now front.now × IsUtf8 name.now) }
     ensures none { IfNone result ((name : List ℕ) → IsFront table name front.now → IsUtf8 name → ⊥) }
@@ -112,7 +112,7 @@ fn name_of(front: &[u8], table: Table) -> Option<&str>
     }
 }
 
-/// Returns the bytes of the name in `front`, which is the text before the columns of a line of numbers.
+/// Returns the bytes of the name in `front`, the text before the columns of a line of numbers.
 fn name_in(front: &[u8], table: Table) -> Option<&[u8]>
     ensures some { IfSome result (λ name. IsFront table name.now front.now) }
     ensures none { IfNone result ((name : List ℕ) → IsFront table name front.now → ⊥) }
@@ -124,7 +124,7 @@ fn name_in(front: &[u8], table: Table) -> Option<&[u8]>
     }
 }
 
-/// Returns the empty text as the name in a line of `compare`, or `None` if the line has text before its columns.
+/// Returns an empty name for a line of `compare`, or `None` if the line has text before its columns.
 fn empty_name(front: &[u8]) -> Option<&[u8]>
     ensures some { IfSome result (λ name. IsFront tables.Compared name.now front.now) }
     ensures none { IfNone result ((name : List ℕ) → IsFront tables.Compared name front.now → ⊥) }
@@ -132,7 +132,7 @@ fn empty_name(front: &[u8]) -> Option<&[u8]>
     if front.is_empty() { Some(front) } else { None }
 }
 
-/// Returns the database name DB from the text `info DB uuid U`, with which a line of `info` begins.
+/// Returns the database name DB in `info DB uuid U`, the beginning of a line of `info`.
 fn database_name(front: &[u8]) -> Option<&[u8]>
     ensures some { IfSome result (λ name. IsFront tables.Info name.now front.now) }
     ensures none { IfNone result ((name : List ℕ) → IsFront tables.Info name front.now → ⊥) }

@@ -9,10 +9,10 @@ use rev_core::Rev;
 /// The contents of a line of a script's output.
 #[derive(Drop)]
 pub enum Told {
-    /// A document in the output of `show`, with the document's id as a JSON string and the number of `leaf` lines that
+    /// A document in the output of `show`: the document's id as a JSON string, and the number of `leaf` lines that
     /// follow.
     Document { id: String, count: u64 },
-    /// A leaf in the output of `show`, with the leaf's known ancestry (the leaf first), and whether the leaf is live.
+    /// A leaf in the output of `show`: the leaf's known ancestry (the leaf first), and whether the leaf is live.
     Leaf { live: bool, revs: Vec<Rev> },
     /// A document in the output of `conflicts`, with the document's id as a JSON string and the live leaves, the winner
     /// first.
@@ -23,7 +23,7 @@ pub enum Told {
     Row(Row),
     /// A log.
     Log(Log),
-    /// A line that `couch_replicate` prints, and that pictures do not show.
+    /// A line that pictures do not show, but that begins like output of `couch_replicate`.
     Other,
     /// A line that `couch_replicate` does not print.
     Unknown,
@@ -46,12 +46,12 @@ pub enum Finding {
     Missing,
     /// The target knows a different parent of the listed revision.
     Contradicts,
-    /// The leaves that the line lists have other contents in the target than in the source.
+    /// The listed leaves have different contents in the source and in the target.
     Differs,
 }
 
 impl Finding {
-    /// Returns the text with which a line of `compare` begins if the line reports the finding `self`.
+    /// Returns the text at the beginning of a `compare` line that reports the finding `self`.
     pub fn text(self) -> &'static str
         ensures { result.now ≡ finding_text self }
     {
@@ -121,11 +121,11 @@ impl Table {
     }
 }
 
-/// The meaning of one number in an output line of captions and numbers, such as the totals that `compare` prints.
+/// The meaning of one number in an output line of numbers with captions, such as the totals of `compare`.
 #[derive(Clone, Copy, Debug, PartialEq, Eq)]
 pub enum Column {
-    /// The counts of `compare`: the source's documents and leaves, the leaves that the target lacks, documents whose
-    /// revisions contradict the target's, and leaves whose contents differ.
+    /// The counts of `compare`: documents and leaves of the source, leaves that the target lacks, documents with
+    /// contradicting revisions, and leaves with different contents.
     ComparedDocuments,
     ComparedLeaves,
     ComparedMissing,
@@ -151,7 +151,7 @@ pub enum Column {
 }
 
 impl Column {
-    /// Returns the caption of a column in a line of numbers, without the blank between the caption and the number.
+    /// Returns the caption of a column, without the space between the caption and the number.
     pub fn text(self) -> &'static str
         ensures { result.now ≡ column_text self }
     {
@@ -202,8 +202,8 @@ pub struct Entry {
     pub failed: u64,
 }
 
-/// A JSON member of the object that describes a session in a printed replication log. The variants have the order of
-/// the members in the log.
+/// A JSON member of the object that describes a session in a printed replication log. The variants are in the order in
+/// which the members appear in the log.
 #[derive(Clone, Copy, Debug, PartialEq, Eq)]
 pub enum Member {
     Failed,
@@ -220,7 +220,7 @@ pub enum Member {
 }
 
 impl Member {
-    /// Returns the text before the member's value in a log.
+    /// Returns the text that precedes the member's value in a log.
     pub fn text(self) -> &'static str
         ensures { result.now ≡ member_text self }
     {
@@ -239,8 +239,7 @@ impl Member {
         }
     }
 
-    /// Returns the byte that follows the value of a member: the closing quotation mark if the value is a string, and
-    /// otherwise a comma.
+    /// Returns the byte after a member's value: a quotation mark after a string, and a comma after any other value.
     pub fn end(self) -> u8
         ensures { result ≡ member_end self }
     {

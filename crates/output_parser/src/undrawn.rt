@@ -26,7 +26,7 @@ fn is_of_changes(line: &[u8]) -> bool
         || line.starts_with(b"conflicts ")
 }
 
-/// Whether a line begins as a line about a session or an audit, or as an error line.
+/// Whether a line begins like a line about a session or an audit, or like an error line.
 fn is_of_sessions(line: &[u8]) -> bool
     ensures { result ≡ is_of_sessions line.now }
 {
@@ -40,7 +40,7 @@ fn is_of_sessions(line: &[u8]) -> bool
         || line.starts_with(b"refused ")
 }
 
-/// Whether a line begins as a document. The text of a log begins with `{"_id":"_local/`.
+/// Whether a line begins like a document, and not like a log. The text of a log begins with `{"_id":"_local/`.
 fn is_document(line: &[u8]) -> bool
     ensures { result ≡ is_document line.now }
 {

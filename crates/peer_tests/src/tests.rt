@@ -1,10 +1,8 @@
-//! Tests of databases and peers. Each test is a table of calls. For each call, the table has the expected result as a
-//! string.
+//! Tests of databases and peers. Each test is a table of calls and their expected results, which are strings.
 //!
-//! A bench, which is a test fixture, holds the databases or peers of a test, and the values that calls on these
-//! databases or peers returned. Each kind of call is a variant of an enum. The code that performs the calls of one kind
-//! is proved once, and all tests with calls of this kind use the code. A new test is only a new table of calls, so it
-//! needs no new proof.
+//! A bench is a test fixture that holds the databases or peers of a test. A bench also holds the values that earlier
+//! calls of the test returned. Each kind of call is a variant of an enum. The code for each kind of call is proved
+//! once, and all tests use this code. A new test needs no new proof, because the test is only a table of calls.
 
 // Calls on databases.
 mod database_rows;

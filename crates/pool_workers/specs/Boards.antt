@@ -12,7 +12,7 @@ use Rattle.pool_workers.specs.declared.fault.Halt.{Halt}
 abbrev pub WorksAt : Board → BoardSeat → Type 0
 WorksAt b s = CameWith b s × (s.works ≡ true)
 
--- The worker's counters in seat s are 0, and the sums of read and of settled documents that the seat has seen are 0.
+-- The counters of the worker with the seat s are 0. The seat's lower bounds for the counters of all workers are also 0.
 abbrev pub HasNothing : BoardSeat → Type 0
 HasNothing s = (s.read ≡ 0) × (s.settled ≡ 0) × (seen_read s ≡ 0) × (seen_settled s ≡ 0)
 
@@ -33,8 +33,8 @@ read_on seats = total (λ (s : BoardSeat). s.read) seats
 abbrev pub settled_on : List BoardSeat → ℕ
 settled_on seats = total (λ (s : BoardSeat). s.settled) seats
 
--- The sum of the read counters of the seats `now` is n more than the sum of the read counters of the seats `given`. The
--- sum of the settled counters of the seats `now` is n more than the sum of the settled counters of the seats `given`.
+-- From the seats `given` to the seats `now`, both the sum of the read counters and the sum of the settled counters grow
+-- by n.
 abbrev pub HaveRisenBy : ℕ → List BoardSeat → List BoardSeat → Type 0
 HaveRisenBy n given now = (read_on now ≡ read_on given + n) × (settled_on now ≡ settled_on given + n)
 
@@ -52,20 +52,19 @@ AreSeated None seats = seats ≡ []
 AreSeated (Some b) seats = All (WorksAt b) seats
 
 -- If the run has a progress board, each seat in the list `seats` is a worker's seat of this board. If the run has a
--- progress board, the number of seats in the list, plus the number `out` of seats in use, is at least the number of
--- workers. If the run has no progress board, the list `seats` is empty.
+-- progress board, the list's seats and the `out` seats in use are together at least as many as the workers. If the run
+-- has no progress board, the list `seats` is empty.
 abbrev pub AreSeats : Option Board → ℕ → ℕ → List BoardSeat → Type 0
 AreSeats None out workers seats = seats ≡ []
 AreSeats (Some b) out workers seats = (workers ≤ length seats + out) × All (WorksAt b) seats
 
--- The seats `given` are returned as the seats `now`, in the same order, and no counter of a seat has fallen.
+-- The list `now` has the returned seats of the list `given`, in the same order, and no counter of a seat has fallen.
 abbrev pub AreBack : Option Board → List BoardSeat → List BoardSeat → Type 0
 AreBack None given now = (given ≡ []) × (now ≡ [])
 AreBack (Some b) given now = AreRisen b given now
 
--- If the run has a progress board, the settled counters of the seats in `now` are, in total, n higher than those of the
--- seats in `given`. If the run has a progress board and no writer was stopped, the read counters of `now` are also, in
--- total, n higher than those of `given`.
+-- If the run has a progress board, the sum of the settled counters grows by n from the seats `given` to the seats
+-- `now`. If the run has a progress board and no writer was stopped, the sum of the read counters also grows by n.
 abbrev pub HaveShown : Option Board → ℕ → Option Halt → List BoardSeat → List BoardSeat → Type 0
 HaveShown None n stopped given now = Unit {0}
 HaveShown (Some b) n stopped given now =
@@ -78,37 +77,37 @@ IsSeated None None = Unit {0}
 IsSeated (Some b) (Some s) = WorksAt b s
 IsSeated board seat = ⊥
 
--- The values s and t are a writer's seat (the writer's access token to the progress board) before and after the writer
--- read n more documents. If the run has no progress board, the optional seats s and t are equal.
+-- The writer's optional seat (access token to the progress board) is s before the writer reads n more documents, and t
+-- afterwards. If the run has no progress board, the optional seats s and t are equal.
 abbrev pub HasRead : Option Board → ℕ → Option BoardSeat → Option BoardSeat → Type 0
 HasRead None n s t = t ≡ s
 HasRead (Some b) n (Some s) (Some t) =
     WorksAt b t × (t.number ≡ s.number) × (t.read ≡ s.read + n) × (t.settled ≡ s.settled)
 HasRead (Some b) n s t = ⊥
 
--- If a writer with the seat s read n more documents, the seat's read counter would exceed its maximum.
+-- The writer has a seat s, and reading n more documents would raise the seat's read counter above its maximum.
 abbrev pub IsFullFor : ℕ → Option BoardSeat → Type 0
 IsFullFor n None = ⊥
 IsFullFor n (Some s) = most < s.read + n
 
--- If a writer with the seat s settled n more documents, the seat's settled counter would not exceed the seat's read
+-- If a writer has the seat s and settles n more documents, the seat's settled counter stays at or below the seat's read
 -- counter.
 abbrev pub HasRoom : Option Board → ℕ → Option BoardSeat → Type 0
 HasRoom (Some b) n (Some s) = s.settled + n ≤ s.read
 HasRoom board n seat = Unit {0}
 
--- A writer's seat changes from s to t: its settled counter grows by z - a documents. The numbers z and a are two counts
--- of documents. If the run has no progress board, the optional seats s and t are equal.
+-- A writer's seat changes from s to t, and the seat's settled counter grows by z - a, the difference of two counts of
+-- documents. If the run has no progress board, the optional seats s and t are equal.
 abbrev pub HasSettled : Option Board → ℕ → ℕ → Option BoardSeat → Option BoardSeat → Type 0
 HasSettled None a z s t = t ≡ s
 HasSettled (Some b) a z (Some s) (Some t) =
     WorksAt b t × (t.number ≡ s.number) × (t.read ≡ s.read) × (t.settled + a ≡ s.settled + z)
 HasSettled (Some b) a z s t = ⊥
 
--- A writer's seat changes from s to t: its settled counter grows by z - a documents. The numbers z and a are two counts
--- of documents. The read counter of the changed seat t is at least the read counter of the original seat s. If the
--- writer was not stopped, z - a documents, for the two counts z and a, were also added to the seat's read counter. If
--- the run has no progress board, the optional seats s and t are equal.
+-- A writer's seat changes from s to t, and the seat's settled counter grows by z - a, the difference of two counts of
+-- documents. The read counter of the changed seat t is at least the read counter of the original seat s. If the writer
+-- was not stopped, the seat's read counter also grows by z - a, the difference of the two counts. If the run has no
+-- progress board, the optional seats s and t are equal.
 abbrev pub HasWritten : Option Board → ℕ → ℕ → Option Halt → Option BoardSeat → Option BoardSeat → Type 0
 HasWritten None a z stopped s t = t ≡ s
 HasWritten (Some b) a z stopped (Some s) (Some t) =
@@ -116,7 +115,7 @@ HasWritten (Some b) a z stopped (Some s) (Some t) =
     × (stopped ≡ None → t.read + a ≡ s.read + z)
 HasWritten (Some b) a z stopped s t = ⊥
 
--- The halt (the reason to end early) in the result of a writer's step, if the step failed.
+-- The reason to end early (`Halt`) that a failed step of a writer returned, or `None` if the step succeeded.
 abbrev pub halt_in : Result (Unit {0}) Halt → Option Halt
 halt_in (Ok done) = None
 halt_in (Err halt) = Some halt

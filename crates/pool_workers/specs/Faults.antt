@@ -61,7 +61,8 @@ AllowsOn may_fill may_stop halt = Unit {0}
 abbrev pub Allows : (Place → Type 0) → Halt → Type 0
 Allows may_stop halt = AllowsOn ⊥ may_stop halt
 
--- A halt is `CountFull` only if `count` is true, and `BoardFull` only if `board` is true.
+-- A worker's halt is `CountFull` only if the statement `count` is true, and is `BoardFull` only if the statement
+-- `board` is true.
 abbrev pub SaysFull : Type 0 → Type 0 → Halt → Type 0
 SaysFull count board halts.CountFull = count
 SaysFull count board halts.BoardFull = board
@@ -71,7 +72,8 @@ SaysFull count board halt = Unit {0}
 abbrev pub SaysNoFull : Halt → Type 0
 SaysNoFull halt = SaysFull ⊥ ⊥ halt
 
--- The error of a run is the error (`fault_of`) for one of a, b and c, the optional reasons why workers stopped early.
+-- The halts a, b and c are optional reasons why workers stopped early. The run returns the error (`fault_of`) for one
+-- of the halts a, b and c.
 abbrev pub IsOneFault : Option Halt → Option Halt → Option Halt → PoolFault → Type 0
 IsOneFault a b c fault =
     (halt : Halt) × (fault ≡ fault_of halt) × ((a ≡ Some halt) ⊎ ((b ≡ Some halt) ⊎ (c ≡ Some halt)))

@@ -14,8 +14,8 @@ use Rattle.pool_workers.specs.declared.parcels.ParcelView.{ParcelView}
 use Rattle.pool_workers.specs.declared.windows.WindowView.{WindowView}
 
 -- The facts about a run's fetchers that hold after all fetchers have ended. If no fetcher was stopped, the fetchers
--- have counted all sent parcels and all documents of these parcels. If no fetcher was stopped, the fetchers have sent
--- exactly one parcel, with the window's number, for each window that they took.
+-- have counted exactly the sent parcels and the documents of the sent parcels. If no fetcher was stopped, the fetchers
+-- sent exactly one parcel for each window that they took, with the number of the window.
 abbrev pub FetchedKnows : WindowView → ParcelView → FetchedAll → Type 0
 FetchedKnows w p t =
     t.stopped ≡ None → (sum t.counts.items ≡ amounts p.sent) × (t.sent ≡ length p.sent) × (w.taken ≡ names p.sent)
@@ -25,13 +25,13 @@ FetchedKnows w p t =
 abbrev pub WrittenKnows : ParcelView → ℕ → WrittenAll → Type 0
 WrittenKnows p amount t = t.stopped ≡ None → (amount ≡ amounts p.got) × (t.got ≡ length p.got)
 
--- A worker's reason h for stopping early is the optional reason a, the optional reason b, or `CountFull`.
+-- The reason h why a worker stopped early is `CountFull`, or is one of the optional reasons a and b.
 abbrev pub IsOneOf : Option Halt → Option Halt → Halt → Type 0
 IsOneOf a b h = (a ≡ Some h) ⊎ ((b ≡ Some h) ⊎ (h ≡ CountFull))
 
 module _ {S L : Type 0} where
-  -- After all workers have ended, the caller's thread has all 1,024 parts of each channel's pass (the ghost right to
-  -- use the channel), and each writer's part of the ledger.
+  -- After all workers have ended, the caller's thread has all 1,024 parts of the ghost right to use each channel. The
+  -- caller's thread also has each writer's part of the ledger.
   abbrev pub IsWhole : ℕ → Ended S L → Type 0
   IsWhole workers e = ((view e.windows).parts ≡ 1024) × ((view e.parcels).parts ≡ 1024) × (e.all.parts ≡ workers)
 

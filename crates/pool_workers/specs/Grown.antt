@@ -29,8 +29,8 @@ module _ {F : Type 0} (refuses : F → Document → Bool) where
   GrownPeer source chosen run given now = (now.0 ≡ given.0) × IsGrown (refuses given.0) source chosen run given.1 now.1
 
   -- States what holds for the target while a run is in progress. During a run, only calls of the run have changed the
-  -- given peer, and the target has the run's session. The session has read `total` documents, and the session's windows
-  -- are pages of the source. If the plan limits the number of windows, the plan allows `more` further windows.
+  -- target, and the target has the run's session. The session has read `total` documents, and the session's windows are
+  -- pages of the source. If the plan limits the number of windows, the plan allows `more` further windows.
   abbrev pub TargetKeeps : DatabaseValue → Plan → Option ((F × PeerValue) × SessionId) → SessionId → ℕ → Option ℕ
       → F × PeerValue → Type 0
   TargetKeeps source plan given session total more now =

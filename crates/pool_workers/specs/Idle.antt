@@ -62,7 +62,7 @@ Shows board given (Fetches f) = given ≡ None
 Shows board given (Writes w) = WriterShows board given w
 Shows board given (Both f w) = WriterShows board given w
 
--- What is known about the worker r, which started as the worker `given`.
+-- What is known about a worker that started as `given` and is now r.
 pub record Keeps {S L : Type 0} (channels : Channels S) (board : Option Board) (may_stop : Place → Type 0)
     (given r : Worker S L) : Type 0 where
   pub idle : IsIdle channels board may_stop r

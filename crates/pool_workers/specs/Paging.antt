@@ -21,7 +21,7 @@ AllowsMore None n more = more ≡ None
 AllowsMore (Some stop_after) n None = ⊥
 AllowsMore (Some stop_after) n (Some more) = n + more ≡ stop_after
 
--- The optional number `less` is one less than the optional number `more` of further windows, or `None` if `more` is
+-- If `more` is a number of further windows, `less` is one less than this number. If `more` is `None`, `less` is also
 -- `None`.
 abbrev pub IsOneLess : Option ℕ → Option ℕ → Type 0
 IsOneLess None less = less ≡ None
@@ -44,7 +44,7 @@ KeepsPages source plan run more sessions =
 abbrev pub HasNoWindows : SessionId → List SessionValue → Type 0
 HasNoWindows run sessions = (s : SessionValue) → Among s sessions → s.id ≡ run → s.windows ≡ []
 
--- The Boolean `lets` says whether the plan allows another window in the run's session.
+-- The Boolean `lets` is true exactly if the plan allows the run's session to store another window.
 abbrev pub LetsStore : Plan → SessionId → Bool → List SessionValue → Type 0
 LetsStore plan run lets sessions =
     (s : SessionValue) → Among s sessions → s.id ≡ run → has_left plan.stop_after (length s.windows) ≡ lets

@@ -10,8 +10,7 @@ use Rattle.pool_workers.specs.declared.parcels.ParcelMessage.TheVariants.{Parcel
 abbrev pub parcel_view : ℕ → List (ℕ × ℕ) → List (ℕ × ℕ) → ParcelView
 parcel_view parts sent got = record { parts = parts; sent = sent; got = got }
 
--- A thread that has no part of the parcel channel's pass (the ghost right to use the channel) has sent no parcel and
--- has received no parcel.
+-- A thread without any part of the right to use the channel of parcels has neither sent nor received a parcel.
 abbrev pub IdleIsEmpty : List ParcelView → Type 0
 IdleIsEmpty views =
     (port : ℕ) (v : ParcelView) → get_elem? views port ≡ some v → v.parts ≡ 0 → (v.sent ≡ []) × (v.got ≡ [])
@@ -29,8 +28,8 @@ module _ {S : Type 0} where
   abbrev pub has_got : ParcelView → ParcelMessage S → ParcelView
   has_got v x = parcel_view v.parts v.sent (v.got ++ parcels (x ∷ []))
 
-  -- The sent parcels are exactly the received and the queued parcels. Each parcel, with its number and its number of
-  -- documents, occurs among the sent parcels exactly as often as among the received and queued parcels.
+  -- The sent parcels are exactly the received and the queued parcels. A pair of a parcel's number and its count of
+  -- documents occurs as often among the sent parcels as among the received and queued parcels.
   abbrev pub Balanced : List (ParcelMessage S) → List ParcelView → Type 0
   Balanced items views =
       (total (λ (v : ParcelView). v.parts) views ≡ 1024)
@@ -38,7 +37,7 @@ module _ {S : Type 0} where
       ≡ total (λ (v : ParcelView). weigh h v.got) views + weigh h (parcels items))
       × IdleIsEmpty views
 
-  -- What a thread knows if it has the complete pass of the channel of parcels (the ghost right to use this channel).
-  -- The sent parcels are exactly the received parcels and the parcels that are still in the channel.
+  -- What a thread knows if it has the complete ghost right to use the channel of parcels. The sent parcels are exactly
+  -- the received parcels and the parcels that are still in the channel.
   abbrev pub Accounts : ParcelView → List (ParcelMessage S) → Type 0
   Accounts v items = (h : ℕ → ℕ → ℕ) → weigh h v.sent ≡ weigh h v.got + weigh h (parcels items)

@@ -1,5 +1,5 @@
 -- Defines which rights, counts and seats the threads of a run have at their start, as specified in docs/PROFILE.md,
--- "The pool". Also defines what the caller's thread knows after all threads have ended.
+-- "The pool". This file also defines what the caller's thread knows after all threads have ended.
 use Rattle.std.specs.Prelude.{◌≡◌, ◌+◌, ◌-◌, ◌<◌, ◌≤◌, ◌++◌, ℕ, List, [], length, Option, IfSome, option_to_list, vec_len, vec_capacity}
 use Rattle.crossbeam_channel.specs.Claims.{view, IsSeatAt}
 use Rattle.crossbeam_channel.specs.Ends.{sends_on}
@@ -22,9 +22,9 @@ use Rattle.pool_workers.specs.Windows.{window_view}
 -- What the caller's thread has before it starts the workers: rights to use channels, ghost counts and seats. The ghost
 -- right to use a channel has 1,024 parts. The caller's thread has all parts of the right to use each channel, and the
 -- channels are unused. The ghost count of settled documents has one part for each writer. Before the workers start, the
--- caller's thread has all these parts, and the ghost count is 0. The caller's thread has an empty list `counts`, with
--- capacity for one number from each fetcher. If the run has a progress board, the caller's thread has a seat (an access
--- token to the progress board) for each writer.
+-- caller's thread has all parts of the ghost count of settled documents, and this count is 0. The caller's thread has
+-- an empty list `counts`, with capacity for one number from each fetcher. If the run has a progress board, the caller's
+-- thread has a seat (an access token to the progress board) for each writer.
 pub record IsReady {S L : Type 0} (channels : Channels S) (board : Option Board) (workers : ℕ) (o : Owned S L) : Type 0
   where
     pub counts : (o.counts.items ≡ []) × (workers ≤ vec_capacity o.counts)
@@ -35,9 +35,9 @@ pub record IsReady {S L : Type 0} (channels : Channels S) (board : Option Board)
 
 -- The channel rights, ghost counts, seats and results that the caller's thread has after the workers have ended. The
 -- caller's thread has the seats (access tokens) of the progress board again. If all workers were started, the caller's
--- thread has the complete ghost right to use each channel: all 1,024 parts. If all workers were started, the caller's
--- thread also has all parts of the count of settled documents, a ghost value. If all workers were started, the caller's
--- thread knows the workers' counts, and the reasons why workers halted.
+-- thread has all 1,024 parts of the ghost right to use each channel. If all workers were started, the caller's thread
+-- also has all parts of the ghost count of settled documents. If all workers were started, the caller's thread knows
+-- the workers' counts, and the reasons why workers halted.
 pub record HaveEnded {S L : Type 0} (channels : Channels S) (board : Option Board) (may_stop : Place → Type 0)
     (workers : ℕ) (given : List BoardSeat) (ended : Option (Ended S L)) (seats : List BoardSeat) : Type 0 where
   pub window_seat : IfSome ended (λ e. IsSeatAt (sends_on channels.to_fetchers) e.windows)
@@ -49,8 +49,8 @@ pub record HaveEnded {S L : Type 0} (channels : Channels S) (board : Option Boar
   pub shown : IfSome ended (λ e. HaveShown board e.all.amount e.written.stopped given seats)
 
 -- The state of the caller's thread while workers run. The number of running fetchers is `fetchers`, the number of
--- running writers is `writers`, and the running workers have the seats `held`. The value r has the rights, counts and
--- seats that no running worker has, and the results of the workers that have ended.
+-- running writers is `writers`, and the running workers have the seats `held`. The value r holds all rights, counts and
+-- seats that are not with a running worker, and the results of the ended workers.
 pub record HasRest {S L : Type 0} (channels : Channels S) (board : Option Board) (may_stop : Place → Type 0)
     (workers : ℕ) (given : List BoardSeat) (fetchers writers : ℕ) (held : List BoardSeat) (r : Rest S L) : Type 0 where
   pub window_seat : IsSeatAt (sends_on channels.to_fetchers) r.windows
@@ -65,8 +65,8 @@ pub record HasRest {S L : Type 0} (channels : Channels S) (board : Option Board)
   pub shown : HaveShown board r.all.amount r.written.stopped given (r.seats.items ++ held)
   pub room : length (r.seats.items ++ held) ≤ vec_capacity r.seats
 
--- What the caller's thread has, and what it knows, after it has started the workers whose numbers are below `number`,
--- if all these workers still run. No window has been read, and no document has been settled.
+-- The state of the caller's thread after it has started the workers with numbers below `number`, if all these workers
+-- still run. No window has been read, and no document has been settled.
 pub record IsStarting {S L : Type 0} (channels : Channels S) (board : Option Board) (may_stop : Place → Type 0)
     (roles : Roles) (given : List BoardSeat) (number fetchers writers : ℕ) (held : List BoardSeat) (r : Rest S L)
     : Type 0 where
@@ -84,7 +84,8 @@ MayStart channels board may_stop roles number r =
     (given : List BoardSeat) × (held : List BoardSeat) × (fetchers : ℕ) × (writers : ℕ)
     × IsStarting channels board may_stop roles given number fetchers writers held r
 
--- The worker w has the given number and has started: the caller's thread had r before and has t now.
+-- The caller's thread starts the worker w, whose number is `number`. The state of the caller's thread is r before the
+-- start, and t afterwards.
 abbrev pub HasStarted : {S L : Type 0} → Channels S → Option Board → (Place → Type 0) → Roles → ℕ → Rest S L → Rest S L
     → Worker S L → Type 0
 HasStarted channels board may_stop roles number r t w =
@@ -93,7 +94,8 @@ HasStarted channels board may_stop roles number r t w =
     → IsStarting channels board may_stop roles given (number + 1) (fetchers + fetchers_in w) (writers + writers_in w)
     (option_to_list (seat_of w) ++ held) t
 
--- The worker with the given number has ended on the caller's thread, which had r before and has t now.
+-- Worker number `number` runs on the caller's thread, because its own thread could not be created. The state of the
+-- caller's thread is r before the worker runs, and t after the worker has ended.
 abbrev pub HasReturned : {S L : Type 0} → Channels S → Option Board → (Place → Type 0) → Roles → ℕ → Rest S L
     → Rest S L → Type 0
 HasReturned channels board may_stop roles number r t =

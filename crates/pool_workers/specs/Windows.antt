@@ -10,8 +10,8 @@ use Rattle.pool_workers.specs.declared.windows.WindowMessage.TheVariants.{Window
 abbrev pub window_view : ℕ → ℕ → ℕ → List ℕ → WindowView
 window_view parts reads count taken = record { parts = parts; reads = reads; count = count; taken = taken }
 
--- Only the page reader has sent windows. A thread without any right to use the channel of windows is not the page
--- reader, and has taken no windows.
+-- Only the page reader has sent windows. A thread without any right to use the channel of windows has taken no windows,
+-- and is not the page reader.
 abbrev pub KeepsRole : List WindowView → Type 0
 KeepsRole views =
     (port : ℕ) (v : WindowView) → get_elem? views port ≡ some v
@@ -30,7 +30,8 @@ module _ {S : Type 0} where
   abbrev pub has_taken : WindowView → WindowMessage S → WindowView
   has_taken v x = window_view v.parts v.reads v.count (v.taken ++ numbers (x ∷ []))
 
-  -- If the page reader has sent n windows, the queued and the taken windows have the numbers 0 to n - 1, each once.
+  -- If the page reader has sent n windows, the queued and taken windows are numbered from 0 to n - 1, without
+  -- duplicates.
   abbrev pub Numbered : List (WindowMessage S) → List WindowView → Type 0
   Numbered items views =
       (total (λ (v : WindowView). v.parts) views ≡ 1024)
@@ -39,8 +40,7 @@ module _ {S : Type 0} where
       ≡ once_below x (total (λ (v : WindowView). v.count) views))
       × KeepsRole views
 
-  -- A fact about the channel of windows. A thread knows this fact if no other thread has a right to use the channel. If
-  -- n windows were sent, the windows that were taken or are still in the channel have exactly the numbers below n, each
-  -- once.
+  -- A fact that a thread knows if it alone has the right to use the channel of windows. If n windows were sent, the
+  -- taken and the queued windows are numbered from 0 to n - 1, without duplicates.
   abbrev pub Covers : WindowView → List (WindowMessage S) → Type 0
   Covers v items = (x : ℕ) → times x v.taken + times x (numbers items) ≡ once_below x v.count

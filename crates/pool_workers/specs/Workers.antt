@@ -14,13 +14,13 @@ use Rattle.pool_workers.specs.declared.writer.Writer.{Writer}
 abbrev pub amounts : List (ℕ × ℕ) → ℕ
 amounts xs = weigh (λ n a. a) xs
 
--- The numbers n of all pairs (n, a) in a list.
+-- The first number of each pair in a list.
 abbrev pub names : List (ℕ × ℕ) → List ℕ
 names xs = map (λ (x : ℕ × ℕ). x.0) xs
 
--- The facts about a fetcher's counts, windows and parcels. These facts hold between the handling of two messages. If a
--- fetcher was not stopped, the fetcher's count is the number of documents of the parcels that the fetcher sent. If a
--- fetcher was not stopped, the fetcher sent a parcel for each window that the fetcher took, except for windows in
+-- The facts about a fetcher's counts, windows and parcels that hold between the handling of two messages. If a fetcher
+-- was not stopped, the fetcher's count is the number of documents of the parcels that the fetcher sent. If a fetcher
+-- was not stopped, it sent a parcel for each window that it took, except for the windows `in_hand`, which are in
 -- progress.
 abbrev pub FetcherKnows : {S : Type 0} → List ℕ → Fetcher S → Type 0
 FetcherKnows in_hand f =
@@ -30,7 +30,7 @@ FetcherKnows in_hand f =
     × (f.stopped ≡ None → (f.fetched ≡ amounts (view f.parcels).sent)
     × ((view f.windows).taken ≡ names (view f.parcels).sent ++ in_hand))
 
--- What a fetcher knows after it has counted a parcel, and before it sends the parcel.
+-- What a fetcher knows when it has counted a parcel, and has not sent the parcel yet.
 abbrev pub HasCounted : {S : Type 0} → ℕ × ℕ → Fetcher S → Type 0
 HasCounted x f =
     (view f.windows ≡ window_view 1 0 0 (view f.windows).taken)
@@ -40,10 +40,10 @@ HasCounted x f =
     × (f.fetched ≡ amounts (view f.parcels).sent + x.1)
     × ((view f.windows).taken ≡ names (view f.parcels).sent ++ x.0 ∷ [])
 
--- The facts about a writer's counts and received parcels. These facts hold between the handling of two messages. If a
--- writer was not stopped, it has counted all received parcels, and the amount of its share of the ledger is the number
--- of these parcels' documents. The writer's count of parcels and the writer's share of the ledger do not include the
--- parcels `in_hand`, which the writer has received and has not settled yet.
+-- The facts about a writer's counts and received parcels that hold between the handling of two messages. The parcels
+-- `in_hand` are received but not yet settled. If a writer was not stopped, it has counted each received parcel except
+-- the parcels `in_hand`. If a writer was not stopped, its share of the ledger is the number of documents in the counted
+-- parcels.
 abbrev pub WriterKnows : {S L : Type 0} → List (ℕ × ℕ) → Writer S L → Type 0
 WriterKnows in_hand w =
     (view w.parcels ≡ parcel_view 1 [] (view w.parcels).got)
@@ -51,9 +51,9 @@ WriterKnows in_hand w =
     × (w.stopped ≡ None → (w.got + length in_hand ≡ length (view w.parcels).got)
     × (w.share.amount + amounts in_hand ≡ amounts (view w.parcels).got))
 
--- The settled counter of the writer's seat, minus that of the earlier seat `given`, is the number of documents that the
--- writer settled (`HaveShown`). If the writer was not stopped, the difference between the read counters of these two
--- seats is the same number.
+-- The writer started with the seat `given`. The seat's settled counter has since grown by the number of documents that
+-- the writer settled (`HaveShown`). If the writer was not stopped, the seat's read counter has also grown by the number
+-- of documents that the writer settled.
 abbrev pub WriterShows : {S L : Type 0} → Option Board → Option BoardSeat → Writer S L → Type 0
 WriterShows board given w =
     AreBack board (option_to_list given) (option_to_list w.seat)

@@ -1,14 +1,13 @@
-//! Brands are type parameters with ghost members, which are values that exist only in proofs. A run has a type
-//! parameter of this kind for its source, and one for its target, and the ghost members state facts about these peers.
-//! When `repl_pool` starts a run, it chooses both type parameters, and thereby fixes the source and the target to which
-//! contracts refer.
+//! Brands are type parameters with ghost members, which are values that exist only in proofs. A run has one brand for
+//! its source and one for its target. The ghost members of a brand state facts about the source or the target.
+//! `repl_pool` chooses both brands when it starts a run. This choice fixes the source and the target to which the
+//! contracts of the run refer.
 //!
-//! If a lock protects a value, or a channel carries a value, contracts know only the invariant of the value's type. If
-//! a type has a brand (a type parameter with ghost members), the invariant of the type may refer to the ghost members.
+//! For a value in a lock or a channel, contracts know only the invariant of the value's type. If the type has a brand
+//! as parameter, the type's invariant may refer to the brand's ghost members.
 use std::marker::Brand;
 
-/// A brand (a type parameter for proofs) with two members that exist only in proofs: the source's database, and the
-/// plan by which the run reads this database.
+/// A type parameter for proofs that names two values: the source's database, and the plan of the run.
 pub trait SourceBrand {
     ghost use Rattle.couch_base.specs.Database.{DatabaseValue};
     ghost use Rattle.repl_target.specs.declared.replication.Plan.{Plan};
@@ -34,8 +33,7 @@ impl SourceBrand for Brand {
     } };
 }
 
-/// A type parameter for proofs with one ghost member: the peer that is the run's target, as given to the run, and the
-/// run's session.
+/// A type parameter for proofs that names two values: the target before the run, and the session of the run.
 pub trait TargetBrand<F> {
     ghost use Rattle.std.specs.Prelude.{Option};
     ghost use Rattle.repl_peer.specs.peer.Peer.{PeerValue};

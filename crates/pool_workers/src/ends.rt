@@ -27,8 +27,8 @@ pub fn end_windows<S: SourceBrand, R: Wait>(
     }
 }
 
-/// For each of the `missing` fetchers that were not started, sends the end message that this fetcher would have sent to
-/// the writers.
+/// Sends `missing` end messages to the writers. Each message replaces the end message of a fetcher that was not
+/// started.
 pub fn end_parcels<S: SourceBrand, R: Wait>(
     rt: &R,
     channels: &Channels<S>,

@@ -54,13 +54,13 @@ pub enum PoolFault {
     /// A step failed.
     #[error(transparent)]
     Refused(TargetFault),
-    /// The gate, a callback that workers call at each stage, returned `Stop`. The variant `Halted` names the stage and
-    /// the window's number.
+    /// The gate, a callback that workers call at each stage, returned `Stop`. The place in `Halted` gives the stage,
+    /// and the number of the window.
     #[error("stopped by the gate")]
     Halted(Place),
-    /// The first leaf of the source's feed above the session's start that the target does not cover after a run. No run
-    /// returns the error `Hole`. The contract of a run excludes `Hole` (clause `runs`, field `early`), and no code
-    /// creates this variant.
+    /// A leaf of the source that the target does not cover after a run: the first one in the feed above the session's
+    /// start. No run returns the error `Hole`. The contract of a run excludes `Hole` in the clause `runs` (field
+    /// `early`). No code creates the variant `Hole`.
     #[error("a leaf of the source is not covered")]
     Hole { seq: u64, id: DocId, rev: Rev },
     /// A fetcher's count of documents would exceed 9,007,199,254,740,991.

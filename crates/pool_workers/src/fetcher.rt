@@ -22,7 +22,8 @@ use std::sync::Wait;
 use std::sync::ledger::Ledger;
 
 /// A fetcher of the pool. A fetcher has a pass (the ghost right to use a channel) for each of the two channels. A
-/// fetcher also has its counts of sent parcels and fetched documents, and the reason why the fetcher stopped.
+/// fetcher also counts its sent parcels and its fetched documents. If a fetcher stopped, the field `stopped` is the
+/// reason.
 #[derive(Drop)]
 pub struct Fetcher<S: SourceBrand> {
     pub windows: WindowPass<S>,
@@ -108,8 +109,8 @@ impl<S: SourceBrand> Fetcher<S> {
         }
     }
 
-    /// Counts a parcel and sends the parcel. Returns `CountFull` only if a count of the fetcher would exceed its
-    /// maximum.
+    /// Counts a parcel and sends the parcel. The fetcher stops with `CountFull` only if one of its counts would exceed
+    /// its maximum.
     fn send<G: Gate, R: Wait>(
         &mut self,
         rt: &R,

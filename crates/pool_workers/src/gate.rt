@@ -3,13 +3,13 @@ ghost use Rattle.pool_workers.specs.declared.gate.Place.{Place};
 
 use std::sync::Wait;
 
-/// A place of a run: a stage that the run has reached with a window, and the number of this window. The windows of a
-/// run are numbered from 0.
+/// A stage that a run has reached with a window, and the number of this window. The windows of a run are numbered from
+/// 0.
 #[derive(Clone, Copy, Debug)]
 pub enum Place {
     /// A fetcher took the window.
     Took(u64),
-    /// A fetcher requested the leaves of the window that the target lacks.
+    /// A fetcher found out which leaves of the window are missing at the target.
     Asked(u64),
     /// A fetcher counted the requested documents at the source.
     Fetched(u64),
@@ -36,13 +36,13 @@ pub trait Gate {
     /// The stages of windows at which a `Gate` may stop a worker.
     ghost may_stop: { Self → Place → Type 0 };
 
-    /// Returns `Go` if a worker that has reached the stage `place` continues with its work, and `Stop` if the worker
-    /// must stop.
+    /// Decides whether a worker continues after it has reached the stage `place`. Returns `Stop` if the worker must
+    /// stop, and otherwise `Go`.
     fn at<R: Wait>(&self, rt: &R, place: Place) -> Turn
         ensures { Stops result (may_stop self.now place) };
 
-    /// Whether a call of `at` may block a worker until another worker has reached a place (a stage of a window). If
-    /// `may_block` returns `false`, one thread may alternate between the work of two workers.
+    /// Whether `at` may make a worker wait until another worker reaches a stage of a window. If `may_block` returns
+    /// `false`, one thread may alternate between the work of two workers.
     fn may_block(&self) -> bool {
         true
     }

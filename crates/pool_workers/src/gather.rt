@@ -38,16 +38,17 @@ pub struct FetchedAll {
     pub stopped: Option<Halt>,
 }
 
-/// The results of the writers: the reason if a writer stopped, or else the total number of settled parcels.
+/// The results of the writers. If a writer stopped, the field `stopped` is the reason. If no writer stopped, `got` is
+/// the total number of settled parcels.
 #[derive(Drop)]
 pub struct WrittenAll {
     pub got: u64,
     pub stopped: Option<Halt>,
 }
 
-/// What the caller's thread owns while workers run. The fields `windows`, `parcels`, `all` and `seats` are the rights and
-/// the seats that no running worker has. The fields `fetched` and `written` have the results of the workers that have
-/// ended.
+/// What the caller's thread owns while workers run. The fields `windows`, `parcels` and `all` are the rights that no
+/// running worker has. The list `seats` has the seats of the progress board that no running worker has. The fields
+/// `fetched` and `written` have the results of the workers that have ended.
 #[derive(Drop)]
 pub struct Rest<S: SourceBrand, L: Ledger> {
     pub windows: WindowPass<S>,
@@ -58,7 +59,7 @@ pub struct Rest<S: SourceBrand, L: Ledger> {
     pub seats: Vec<BoardSeat>,
 }
 
-/// Adds the counts of two groups of workers, unless a worker stopped or the sum overflows.
+/// Adds the counts of two groups of workers. If a worker stopped or the sum overflows, returns `total` and the reason.
 fn count_up(
     total: u64,
     more: u64,
@@ -178,7 +179,8 @@ impl<F: WriteFilter, S: SourceBrand, T: TargetBrand<F>, L: Ledger, G: Gate, R: W
     G,
     R,
 > {
-    /// Returns what the caller's thread owns before any worker has started, with no result of a worker.
+    /// Returns what the caller's thread owns before any worker has started. The result has all rights and seats, but no
+    /// results of workers.
     pub fn before_workers(&self, roles: Roles, owned: Owned<S, L>) -> Rest<S, L>
         requires workers { roles.workers ≤ 64 }
         requires owned { IsReady self.now.channels.now (option_copied self.now.board) roles.workers owned }
@@ -210,7 +212,7 @@ impl<F: WriteFilter, S: SourceBrand, T: TargetBrand<F>, L: Ledger, G: Gate, R: W
         }
     }
 
-    /// Adds the results of a worker that has ended, and takes back the worker's parts and its seat.
+    /// Adds the results of a worker that has ended, and takes back the worker's rights and seat.
     pub fn take_in(&self, rest: &mut Rest<S, L>, worker: Worker<S, L>)
         requires idle { IsIdle self.now.channels.now (option_copied self.now.board) (G.may_stop self.now.gate.now)
             worker }

@@ -1,4 +1,4 @@
-//! The facts about the run's target that are known without the target's lock.
+//! Facts about the run's target that a thread knows without taking the target's lock.
 ghost use Rattle.std.specs.Prelude.{◌≡◌, [], Some, length, IfOk, IfSome};
 ghost use Rattle.std.specs.Option.{ForSome};
 ghost use Rattle.couch_base.specs.Database.{DatabaseValue};
@@ -12,8 +12,8 @@ use rev_tree::SessionId;
 use std::alloc::{AllocError, Global};
 use std::marker::PhantomData;
 
-/// An empty database if the update sequence of the given target was 0, and otherwise `None`. A target with the update
-/// sequence 0 has no documents.
+/// Facts about the target at the start of the run. The field `none` has an empty database if the target's update
+/// sequence was 0, and is otherwise `None`. A target with the update sequence 0 has no documents.
 #[derive(Drop)]
 pub struct GivenTarget<F: WriteFilter, T: TargetBrand<F>> {
     none: Option<Database>,
@@ -40,9 +40,9 @@ impl<F: WriteFilter, T: TargetBrand<F>> GivenTarget<F, T> {
         }
     }
 
-    /// Returns the request for all leaves of a page's rows, if the update sequence of the given target was 0. A target
-    /// with the update sequence 0 has no documents, and therefore lacks all leaves. The method `diff` does not lock the
-    /// target. Returns `None` if the update sequence of the given target was not 0.
+    /// Returns the request for all leaves of a page if the target's update sequence was 0 at the start of the run. A
+    /// target with the update sequence 0 has no documents, and therefore lacks all leaves. The method `diff` does not
+    /// lock the target. Returns `None` if the target's update sequence was not 0.
     pub fn diff<S: SourceBrand>(
         &self,
         alloc: Global,

@@ -1,5 +1,5 @@
-//! Messages that come from the source. The invariants of the message types say that a message comes from the source, so
-//! proofs about every thread can use this fact.
+//! Messages that come from the source. The invariants of the message types say that a message comes from the source.
+//! Proofs about each thread can therefore use this fact.
 ghost use Rattle.std.specs.Prelude.{◌≡◌, ◌<◌, [], true, length, IfOk};
 ghost use Rattle.std.specs.List.{sum_by};
 ghost use Rattle.couch_base.specs.Database.{DatabaseValue};
@@ -18,8 +18,8 @@ use std::marker::{Model, PhantomData};
 /// for the thread). `HEAP_STEP` bytes are enough for a parcel of 500 small documents.
 const HEAP_STEP: usize = 512 * 1024;
 
-/// The size in bytes of the block that `keep_heaps` frees. After a block of `HEAP_KEPT` bytes was freed, a heap may
-/// keep twice this number of free bytes at the end of the heap.
+/// The size in bytes of the block that `keep_heaps` frees. After a block of `HEAP_KEPT` bytes is freed, each heap may
+/// keep up to `2 * HEAP_KEPT` free bytes at its end.
 const HEAP_KEPT: usize = 1024 * 1024;
 
 /// A page of the source's feed that was read for the run's plan, with only the rows of selected documents.
@@ -42,7 +42,8 @@ impl<S: SourceBrand> Model for Paged<S> {
 }
 
 impl<S: SourceBrand> Paged<S> {
-    /// Reads the source's next page above a sequence, with the window size and the selection of a plan.
+    /// Reads the page of the source's feed above the sequence `since`. The plan gives the window size and the
+    /// selection.
     pub fn read<F: WriteFilter>(
         alloc: Global,
         source: &Peer<F>,
@@ -71,7 +72,8 @@ impl<S: SourceBrand> Paged<S> {
         self.ready.window()
     }
 
-    /// Builds the shortened copy of the window that the target keeps after the window is done (`ReadyWindow::prepare`).
+    /// Builds a shortened copy of the window (`ReadyWindow::prepare`). The target keeps the copy after the window is
+    /// done.
     pub fn prepare(&mut self, alloc: Global)
         ensures { self.new ≡ self.old }
     {
@@ -86,8 +88,8 @@ impl<S: SourceBrand> Paged<S> {
         self.ready
     }
 
-    /// Copies the page. The copied page does not have a prebuilt window without leaves (`DoneWindow`), even if
-    /// `prepare` has built one for the original page.
+    /// Copies the page. The new page has no prebuilt `DoneWindow` (a window without leaves), even if `prepare` has
+    /// built one for the original page.
     pub fn copy(&self, alloc: Global) -> Result<Paged<S>, AllocError>
         ensures { IfOk result (λ p. p ≡ self.now) }
     {
@@ -99,8 +101,8 @@ impl<S: SourceBrand> Paged<S> {
     }
 }
 
-/// A request, and the number of documents that the source would return for the request. A fetcher has determined the
-/// number of requested documents, but no thread has read the requested documents yet.
+/// A request, and the number of documents that the source would return for the request. A fetcher has counted the
+/// requested documents, but no thread has read them yet.
 #[derive(Drop)]
 pub struct Found<S: SourceBrand> {
     page: Paged<S>,
@@ -122,7 +124,7 @@ impl<S: SourceBrand> Model for Found<S> {
 }
 
 impl<S: SourceBrand> Found<S> {
-    /// Counts the documents that the source would return for a request for leaves of a page.
+    /// Counts the documents that the source would return for the request `asked`.
     pub fn count<F: WriteFilter>(
         alloc: Global,
         source: &Peer<F>,
@@ -141,7 +143,7 @@ impl<S: SourceBrand> Found<S> {
     }
 
     /// Counts the documents that the source would return if all leaves of the page `page` were requested. The source
-    /// returns one document per leaf, so `whole` only counts leaves, and does not search the source.
+    /// returns one document per leaf. The function `whole` therefore counts leaves, and does not search the source.
     pub fn whole<F: WriteFilter>(source: &Peer<F>, asked: Asked, page: Paged<S>) -> Found<S>
         requires source { S.source ≡ source.now.1.db }
         requires whole { (db : DatabaseValue) × (db.docs ≡ []) × (asked ≡ revs_diff db page) }
@@ -262,20 +264,20 @@ fn leaf_count(rows: &[Row]) -> u128
 /// Grows the heap of this thread by more than a page.
 ///
 /// The C library grows the heap of each thread except the first by one page per system call, and all threads may have
-/// to wait for the system call. Allocating and freeing one large block grows the heap in one step, if the heap keeps
-/// the freed memory (`keep_heaps`).
+/// to wait for the system call. `grow_heap` allocates and frees one large block. The heap then grows in one step, if
+/// `keep_heaps` makes it keep the freed memory.
 fn grow_heap(alloc: Global) {
     if let Ok(room) = Vec::<u8>::with_capacity(alloc, HEAP_STEP) {
         drop(room);
     }
 }
 
-/// Makes the C library keep up to twice `HEAP_KEPT` free bytes at the end of each thread's heap. Free bytes at the end
-/// of a thread's heap let the thread reuse the memory of a freed parcel.
+/// Lets the C library keep up to `2 * HEAP_KEPT` free bytes at the end of each thread's heap. Free bytes at the end of
+/// a thread's heap let the thread reuse the memory of a freed parcel.
 ///
 /// By default, the C library releases the free memory at the end of a heap if this memory exceeds 128 KiB. The C
-/// library allocates large blocks directly from the system. After a large block was freed, each heap keeps free memory
-/// of up to twice the size of that block.
+/// library allocates large blocks directly from the system. When a large block is freed, the C library raises the limit
+/// from 128 KiB to twice the size of this block, for each heap.
 pub fn keep_heaps(alloc: Global) {
     if let Ok(room) = Vec::<u8>::with_capacity(alloc, HEAP_KEPT) {
         drop(room);

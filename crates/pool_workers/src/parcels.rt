@@ -1,5 +1,4 @@
-//! Defines the channel of parcels: the channel's messages, what each thread knows about the channel, and the rule that
-//! the channel always satisfies.
+//! Defines the messages and the rule of the channel of parcels, and what each thread knows about this channel.
 use crate::brands::SourceBrand;
 use crate::messages::Found;
 use crossbeam_channel::protocol::{Join, Lesson, Outcome, Protocol, Split};
@@ -9,17 +8,17 @@ use std::collections::LinkedList;
 /// A message from a fetcher to a writer.
 #[derive(Drop)]
 pub enum ParcelMessage<S: SourceBrand> {
-    /// A window's documents at the source, with the number of the window. The fetcher has counted the parcel's
-    /// documents, and the writer will read them from the source.
+    /// A window's documents at the source, with the number of the window. The fetcher has counted the documents of the
+    /// parcel. The writer will read the documents from the source.
     Parcel { number: u64, fetched: Found<S> },
-    /// The message after which a writer receives no further message from the channel of parcels.
+    /// The end message, which is the last message that a writer takes from the channel of parcels.
     End,
 }
 
-/// A ghost value with the facts that a thread knows about the channel from the fetchers to the writers. The field
-/// `parts` says how many of the 1,024 parts of the channel's pass (the ghost right to use the channel) the thread has.
-/// The fields `sent` and `got` list the parcels that the thread has sent and received, each as a pair of the parcel's
-/// number and its number of documents. No `ParcelView` exists at run time.
+/// A ghost value with the facts that a thread knows about the channel from the fetchers to the writers. The channel's
+/// pass (the ghost right to use the channel) has 1,024 parts, of which the thread has `parts`. The field `sent` lists
+/// the parcels that the thread has sent, and `got` those that it has received. Both lists give a parcel as a pair: the
+/// parcel's number, and its number of documents. No `ParcelView` exists at run time.
 pub struct ParcelView {
     pub parts: u64,
     pub sent: LinkedList<(u64, u64)>,
@@ -40,8 +39,8 @@ impl<S: SourceBrand> Protocol<ParcelMessage<S>, ParcelView> for Conserved {
     ghost first = { parcel_view 1024 [] [] };
 }
 
-/// The rule by which the right to use the channel of parcels is split for workers, and joined again. A pass (the ghost
-/// right to use a channel) is split into two passes, one of which is for a worker.
+/// The rule for splitting the right to use the channel of parcels, and for joining the parts again. A split turns one
+/// pass (the ghost right to use a channel) into two passes, one of them for a worker.
 pub struct ParcelCut;
 
 impl Split<ParcelView> for ParcelCut {
@@ -90,8 +89,7 @@ impl<S: SourceBrand> Lesson<ParcelMessage<S>, ParcelView> for Gets {
     ghost fact = { λ _ _. Unit {0} };
 }
 
-/// What a thread knows about the channel of parcels if the thread has all 1,024 parts of the channel's pass (the ghost
-/// right to use the channel).
+/// What a thread knows about the channel of parcels if it has the complete pass (the ghost right to use the channel).
 pub struct Whole;
 
 impl<S: SourceBrand> Lesson<ParcelMessage<S>, ParcelView> for Whole {

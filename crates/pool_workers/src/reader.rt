@@ -23,7 +23,7 @@ const MOST_AHEAD: u64 = 8;
 
 /// Pages that the reader has read from the source's feed, in order, and copies of these pages. The page reader must
 /// store the copied pages at the target, and send the original pages to the fetchers. The field `hi` is the sequence at
-/// which the last page ends, and the field `stopped` is the reason if reading failed.
+/// which the last page ends. If reading failed, the field `stopped` is the reason.
 #[derive(Drop)]
 struct Ahead<S: SourceBrand> {
     pages: Vec<Paged<S>>,
@@ -91,8 +91,8 @@ impl<F: WriteFilter, S: SourceBrand, T: TargetBrand<F>, L: Ledger, G, R: Wait> C
     R,
 > {
     /// Takes the target's lock, stores pages at the target in order, and releases the lock. Returns the number of
-    /// stored pages, and the reason if a page was not stored. The reason for an unstored page is `Lost` if the plan
-    /// allows no further window.
+    /// stored pages. If a page was not stored, the call also returns the reason. If the plan allows no further window,
+    /// a page is not stored, and the reason is `Lost`.
     fn store_all(&self, pages: Vec<Paged<S>>) -> (usize, Option<Halt>)
         ensures refused { IfSome result.1 (λ halt. (halt ≡ Halt.Lost)
             ⊎ (fault : TargetFault) × (halt ≡ Halt.Refused fault) × IsStepFault fault) }
@@ -147,8 +147,8 @@ impl<F: WriteFilter, S: SourceBrand, T: TargetBrand<F>, L: Ledger, G, R: Wait> C
         Ok(())
     }
 
-    /// Reads pages above a sequence in order, at most `most` pages and at most the number of pages that the plan
-    /// allows.
+    /// Reads pages above the sequence `since`, in order. The call reads at most `most` pages, and at most the number of
+    /// pages that the plan allows.
     fn read_ahead(&self, since: u64, number: u64, most: u64) -> Ahead<S>
         requires source { S.source ≡ self.now.source.now.1.db }
         requires plan { S.plan ≡ self.now.plan.now }
@@ -184,9 +184,9 @@ impl<F: WriteFilter, S: SourceBrand, T: TargetBrand<F>, L: Ledger, G, R: Wait> C
         ahead
     }
 
-    /// Reads at most `most` pages above a sequence, stores all pages while the call holds the target's lock, and then
-    /// sends the pages. The call sends the stored pages even if storing a later page fails. Returns the sequence at
-    /// which the last page ends, and the number of the next window.
+    /// Reads at most `most` pages above the sequence `since`, stores them at the target, and sends them to the
+    /// fetchers. The call takes the target's lock once to store all pages. The call sends the stored pages even if
+    /// storing a later page fails. Returns the sequence at which the last page ends, and the number of the next window.
     pub fn read_some(
         &self,
         windows: &mut WindowPass<S>,
@@ -228,9 +228,9 @@ impl<F: WriteFilter, S: SourceBrand, T: TargetBrand<F>, L: Ledger, G, R: Wait> C
         }
     }
 
-    /// Reads windows from a start until the run's goal (a sequence) or the plan's limit is reached, stores each window
-    /// at the target, and sends each window. The call reads one window first, then two, then four, and then eight
-    /// windows at a time.
+    /// Reads the source's windows above the sequence `start`, stores each window at the target, and sends it to the
+    /// fetchers. The call stops at the run's goal (a sequence), or at the plan's maximum number of windows. The call
+    /// reads one window first, then two, then four, and then eight windows at a time.
     pub fn read_windows(&self, start: u64, windows: &mut WindowPass<S>) -> Option<Halt>
         requires source { S.source ≡ self.now.source.now.1.db }
         requires plan { S.plan ≡ self.now.plan.now }

@@ -23,12 +23,12 @@ use std::alloc::{AllocError, Global};
 use std::marker::{Model, PhantomData};
 use std::sync::ledger::{Book, Ledger, Share};
 
-/// The target of a run: the given target after the calls that the run has made so far. The run calls the target's
-/// methods only with messages that come from the source. The field `ledger` of `RunTarget` is a ghost count of the
-/// documents that the run's session has read. If the plan limits the number of windows, `more` is the number of windows
-/// that the run may still store. The methods `append` and `record` do what the methods `append` and `record` of `Peer`
-/// do, for the run's session. The method `append` first checks that the plan allows another window. The method
-/// `settle_counted` settles a parcel, and adds the number of settled documents to a worker's part of the ghost count.
+/// The target of a run, in the state after the calls that the run has made so far. The run calls the target's methods
+/// only with messages that come from the source. The field `ledger` of `RunTarget` is a ghost count of the documents
+/// that the run's session has read. If the plan limits the number of windows, `more` is the number of windows that the
+/// run may still store. For the run's session, the methods `append` and `record` have the effects of `Peer::append` and
+/// `Peer::record`. The method `append` first checks that the plan allows another window. The method `settle_counted`
+/// settles a parcel. The method also adds the number of settled documents to a worker's share of the ghost count.
 #[derive(Drop)]
 pub struct RunTarget<F: WriteFilter, S: SourceBrand, T: TargetBrand<F>, L: Ledger> {
     target: Peer<F>,

@@ -48,7 +48,7 @@ pub fn show_settled(board: Option<&Board>, seat: &mut Option<BoardSeat>, documen
     let _ = board.add_settled(seat, documents);
 }
 
-/// Appends a seat (an access token to the progress board), if there is one, to the list `seats`.
+/// Appends the seat to the list `seats`, unless `seat` is `None`. A seat is an access token to the progress board.
 pub fn give_back(seats: &mut Vec<BoardSeat>, seat: Option<BoardSeat>)
     requires { vec_len seats.old + length (option_to_list seat) ≤ vec_capacity seats.old }
     ensures items { seats.new.items ≡ seats.old.items ++ option_to_list seat }

@@ -32,17 +32,17 @@ impl<
     G: Gate + Sync,
     R: Wait + Sync,
 > Context<'e, F, S, T, L, G, R> {
-    /// Sends the end messages that end the workers with the numbers below `running` (`Roles`). A worker that receives
-    /// no end message would run forever, so the counts must be exact:
+    /// Sends the end messages for the first `running` workers (`Roles`). A worker without an end message would run
+    /// forever, so the numbers of end messages must be exact.
     ///
     /// - Each fetcher takes one end message from the channel of windows.
     /// - Each writer without a fetcher takes one end message from the channel of parcels.
     /// - Each fetcher without a writer sends one end message to the writers when it ends (`take_turn`). The call sends
-    ///   only the end messages of the channel of parcels that no fetcher sends.
+    ///   only those end messages to the writers that no fetcher sends.
     /// - A worker with both roles ends when its fetcher ends, so its writer takes no end message.
     ///
-    /// If no window has been read, both channels have capacity for all end messages, because each channel has capacity
-    /// for two messages per fetcher.
+    /// Each channel has capacity for two messages per fetcher. If no window has been read, both channels therefore have
+    /// capacity for all end messages.
     pub fn end_workers(
         &self,
         roles: Roles,
@@ -61,11 +61,11 @@ impl<
         ensures parcels { IsSeatAt (sends_on self.now.channels.now.to_writers) parcels.new
             × (view parcels.new ≡ view parcels.old) }
     {
-        // The workers with the numbers from `alone` on are fetchers.
+        // A worker whose number is at least `alone` is a fetcher.
         let fetchers = running.saturating_sub(roles.alone);
-        // The workers with the numbers below `alone` are writers without a fetcher.
+        // A worker whose number is below `alone` only writes.
         let lone_writers = running.min(roles.alone);
-        // The workers with the numbers from `workers` on are fetchers without a writer.
+        // A worker whose number is at least `workers` only fetches.
         let lone_fetchers = running.saturating_sub(roles.workers);
         end_windows(self.rt, self.channels, windows, fetchers);
         end_parcels(
@@ -78,9 +78,9 @@ impl<
 
     /// Creates the worker with the given number, and starts the worker on a thread of its own.
     ///
-    /// Returns `None` if the thread cannot be created. Before the call returns `None`, it sends the end messages that
-    /// the running workers and the new worker need. The call also runs the new worker on this thread until the new
-    /// worker takes its end message, and takes back what the new worker had (`take_in`).
+    /// Returns `None` if the thread cannot be created. Before the call returns `None`, it sends the end messages for
+    /// the running workers and the new worker. The call then runs the new worker on this thread until the worker takes
+    /// its end message. Finally, the call takes back the new worker's rights and seat (`take_in`).
     fn start_worker<'s, E>(
         &'e self,
         scope: &Scope<'s, E>,
@@ -123,7 +123,7 @@ impl<
         match scope.spawn_with(promise, work) {
             Ok(handle) => Some(handle),
             Err(refused) => {
-                // The workers below `number` run on their threads, and the new worker runs on this thread, so
+                // `number` workers already run on their own threads. The new worker runs on this thread. Therefore,
                 // `number + 1` workers must end.
                 self.end_workers(roles, number + 1, &mut rest.windows, &mut rest.parcels);
                 let worker = (refused.value)();
@@ -134,8 +134,8 @@ impl<
     }
 
     /// Starts all workers of a run, in the order of their numbers. If an allocation fails, the call starts no worker,
-    /// and therefore sends no end message. If a thread cannot be created, the call starts no further worker, and has
-    /// sent the end messages that the started workers need (`start_worker`).
+    /// and therefore sends no end message. If a thread cannot be created, the call starts no further worker. The failed
+    /// call of `start_worker` has then sent the end messages for the started workers.
     pub fn start_all<'s, E>(
         &'e self,
         scope: &Scope<'s, E>,

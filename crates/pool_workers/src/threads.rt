@@ -20,9 +20,9 @@ use std::thread;
 use std::thread::{Scope, Threads};
 
 /// What the caller's thread owns before the workers start. The fields `windows` and `parcels` are the complete rights
-/// to use the channels. The field `all` is the complete right to count settled documents. The list `seats` has a seat
-/// of the progress board for each writer, if the run has a progress board. The list `counts` is empty, and has capacity
-/// for the count of each fetcher.
+/// to use the channels. The field `all` is the complete ghost right to count the settled documents. The list `seats`
+/// has a seat of the progress board for each writer, if the run has a progress board. The list `counts` is empty, and
+/// has capacity for the count of each fetcher.
 #[derive(Drop)]
 pub struct Owned<S: SourceBrand, L: Ledger> {
     pub counts: Vec<u64>,
@@ -34,7 +34,7 @@ pub struct Owned<S: SourceBrand, L: Ledger> {
 
 /// What the caller's thread owns after all workers have ended. The fields `windows`, `parcels` and `all` are the
 /// complete rights to use the channels and to count settled documents. The fields `fetched` and `written` have the
-/// workers' results. The field `read` is the reason if reading the windows ended early.
+/// workers' results. If reading the windows ended early, the field `read` is the reason.
 #[derive(Drop)]
 pub struct Ended<S: SourceBrand, L: Ledger> {
     pub windows: WindowPass<S>,
@@ -112,8 +112,8 @@ impl<
     }
 
     /// Runs the workers on threads of one scope (`in_scope`). If the gate (a callback) never blocks a worker, each
-    /// worker fetches and writes, so a run needs half as many threads. If such a run has only one worker, the worker
-    /// runs on the caller's thread (`in_turn`).
+    /// worker fetches and writes, so a run needs half as many threads. If the gate never blocks and the run has one
+    /// worker, this worker runs on the caller's thread (`in_turn`).
     pub fn with_workers(
         &'e self,
         workers: usize,

@@ -129,10 +129,10 @@ fn sum_up<F: WriteFilter, S: SourceBrand, T: TargetBrand<F>, L: Ledger, G: Gate>
     }
 }
 
-/// States three facts about the windows and parcels of a run, for use in proofs. The call needs, for each channel, all
-/// 1,024 parts of the channel's pass (the ghost right to use the channel). At most one fetcher took each window. If no
-/// fetcher halted, at most one writer received each parcel. If the numbers of sent and received parcels are equal,
-/// exactly the sent parcels were received, each with the same number of documents.
+/// States three facts about the windows and parcels of a run, for use in proofs. For each channel, the call needs all
+/// 1,024 parts of the pass (the ghost right to use the channel). At most one fetcher took each window. If no fetcher
+/// halted, at most one writer received each parcel. If the numbers of sent and received parcels are equal, exactly the
+/// sent parcels were received, each with the same number of documents.
 fn each_once<S: SourceBrand, L: Ledger>(channels: &Channels<S>, ended: &mut Ended<S, L>)
     requires window_seat { IsSeatAt (sends_on channels.now.to_fetchers) ended.old.windows }
     requires parcel_seat { IsSeatAt (sends_on channels.now.to_writers) ended.old.parcels }

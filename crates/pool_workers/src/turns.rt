@@ -1,5 +1,5 @@
-//! Runs the only worker of a run on the thread that reads the windows. A second thread would settle no document
-//! earlier, and would move data between the processors' caches.
+//! Runs the only worker of a run on the thread that reads the windows. A second thread would not settle documents
+//! earlier, but would move data between the caches of processors.
 ghost use Rattle.std.specs.Prelude.{◌≡◌, ℕ, ◌<◌, [], true, Option, Some, IfSome, option_copied};
 ghost use Rattle.crossbeam_channel.specs.Claims.{view, IsSeatAt};
 ghost use Rattle.crossbeam_channel.specs.Ends.{sends_on};
@@ -31,8 +31,9 @@ impl<F: WriteFilter, S: SourceBrand, T: TargetBrand<F>, L: Ledger, G: Gate, R: W
     G,
     R,
 > {
-    /// Reads windows from a start until the run's goal (a sequence) or the plan's limit is reached. The call stores
-    /// each window at the target and sends the window, and runs one turn of the worker before it reads the next window.
+    /// Reads the source's windows above the sequence `start`. For each window, the call stores the window at the
+    /// target, sends the window, and runs one turn of the worker. The call stops at the run's goal (a sequence), or at
+    /// the plan's maximum number of windows.
     fn read_in_turn(
         &self,
         start: u64,

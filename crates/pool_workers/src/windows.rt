@@ -1,5 +1,4 @@
-//! Defines the channel of windows: the channel's messages, what each thread knows about the channel, and the rule that
-//! the channel always satisfies.
+//! Defines the messages and the rule of the channel of windows, and what each thread knows about this channel.
 use crate::brands::SourceBrand;
 use crate::messages::Paged;
 use crossbeam_channel::protocol::{Join, Lesson, Outcome, Protocol, Split};
@@ -15,11 +14,11 @@ pub enum WindowMessage<S: SourceBrand> {
     End,
 }
 
-/// A ghost value with the facts that a thread knows about the channel from the page reader to the fetchers. The field
-/// `parts` says how many of the 1,024 parts of the channel's pass (the ghost right to use the channel) the thread has.
-/// The field `reads` is 1 for the page reader and 0 for other threads, and `count` is the number of windows that the
-/// page reader has sent. The field `taken` has the numbers of the windows that the thread has taken. No `WindowView`
-/// exists at run time.
+/// A ghost value with the facts that a thread knows about the channel from the page reader to the fetchers. The
+/// channel's pass (the ghost right to use the channel) has 1,024 parts, of which the thread has `parts`. The field
+/// `reads` is 1 for the page reader and 0 for other threads. The field `count` is the number of windows that the thread
+/// has sent, which is 0 unless the thread is the page reader. The field `taken` has the numbers of the windows that the
+/// thread has taken. No `WindowView` exists at run time.
 pub struct WindowView {
     pub parts: u64,
     pub reads: u64,
@@ -27,8 +26,8 @@ pub struct WindowView {
     pub taken: LinkedList<u64>,
 }
 
-/// The rule that the channel of windows always satisfies. For each number below the page reader's count of sent
-/// windows, exactly one queued or taken window has this number.
+/// The rule that the channel of windows always satisfies. If the page reader has sent n windows, the queued and the
+/// taken windows have the numbers 0 to n - 1, each once.
 pub struct InTurn;
 
 impl<S: SourceBrand> Protocol<WindowMessage<S>, WindowView> for InTurn {
@@ -40,8 +39,8 @@ impl<S: SourceBrand> Protocol<WindowMessage<S>, WindowView> for InTurn {
     ghost first = { window_view 1024 1 0 [] };
 }
 
-/// The rule by which passes are split and joined. A pass (the ghost right to use a channel) is split into two passes,
-/// one of which is for a fetcher.
+/// The rule by which passes are split and joined. A split turns one pass (the ghost right to use a channel) into two
+/// passes, one of them for a fetcher.
 pub struct WindowCut;
 
 impl Split<WindowView> for WindowCut {
@@ -63,8 +62,7 @@ impl Join<WindowView> for WindowCut {
     ghost spent = { window_view 0 0 0 [] };
 }
 
-/// The step in which the page reader, the thread that reads pages from the source's feed, sends a message to the
-/// fetchers.
+/// Sending a message to the fetchers, as the page reader (the thread that reads the source's pages).
 pub struct Reads;
 
 impl<S: SourceBrand> Outcome<WindowMessage<S>, WindowView> for Reads {
@@ -92,7 +90,7 @@ impl<S: SourceBrand> Lesson<WindowMessage<S>, WindowView> for Takes {
     ghost fact = { λ _ _. Unit {0} };
 }
 
-/// The fact that a thread knows if no other thread has a right to use the channel of windows.
+/// What a thread knows about the channel of windows if no other thread has a right to use this channel.
 pub struct AllTaken;
 
 impl<S: SourceBrand> Lesson<WindowMessage<S>, WindowView> for AllTaken {

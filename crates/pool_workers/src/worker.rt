@@ -21,11 +21,11 @@ use std::thread::{Promise, PromisedHandle};
 /// A worker of a run, with its roles and the state of each role.
 #[derive(Drop)]
 pub enum Worker<S: SourceBrand, L: Ledger> {
-    /// A fetcher whose parcels other workers write.
+    /// A worker that only fetches.
     Fetches(Fetcher<S>),
-    /// A writer of parcels that other workers fetch.
+    /// A worker that only writes.
     Writes(Writer<S, L>),
-    /// A fetcher and a writer that take turns.
+    /// A worker that alternates between fetching and writing.
     Both(Fetcher<S>, Writer<S, L>),
 }
 
@@ -40,9 +40,9 @@ pub struct Roles {
 }
 
 impl Roles {
-    /// Returns the roles of a run with the given number of fetchers. If the gate (a callback) may block a worker, no
-    /// worker has both roles, so a blocked fetcher does not keep a writer from writing. If the gate never blocks, each
-    /// worker has both roles.
+    /// Returns the roles of a run with the given number of fetchers. If the gate (a callback) may block a worker, each
+    /// worker either fetches or writes. A blocked fetcher then does not keep a writer from writing. If the gate never
+    /// blocks, each worker both fetches and writes.
     pub fn of(workers: usize, may_block: bool) -> Roles
         ensures workers { result.workers ≡ workers }
         ensures alone { result.alone ≤ workers }
@@ -57,7 +57,8 @@ impl Roles {
     }
 }
 
-/// A promise about the worker that a thread returns (`kept_by`). The field `worker` is the worker as it started.
+/// What a thread promises about the worker that the thread returns when it ends (`kept_by`). The field `worker` is the
+/// worker as it started.
 #[derive(Drop)]
 pub struct WorkerPromise<'a, S: SourceBrand, L: Ledger, G: Gate> {
     pub channels: &'a Channels<S>,
@@ -82,8 +83,8 @@ impl<F: WriteFilter, S: SourceBrand, T: TargetBrand<F>, L: Ledger, G: Gate, R: W
     G,
     R,
 > {
-    /// Creates the worker with the given number (`Roles`). The worker gets its rights to the channels from `rest`, and
-    /// a writer also gets the last seat.
+    /// Creates the worker with the given number (`Roles`). The worker takes its rights to use the channels from `rest`.
+    /// If the worker writes and the run has a progress board, the worker also takes the last seat in `rest`.
     pub fn new_worker(&self, roles: Roles, number: usize, rest: &mut Rest<S, L>) -> Worker<S, L>
         requires roles { (roles.alone ≤ roles.workers) × (roles.workers ≤ 64) }
         requires number { number < roles.alone + roles.workers }
@@ -107,12 +108,12 @@ impl<F: WriteFilter, S: SourceBrand, T: TargetBrand<F>, L: Ledger, G: Gate, R: W
         Worker::Fetches(fetcher)
     }
 
-    /// Runs one turn of a worker. A fetcher takes a window. A writer without a fetcher takes a parcel. A writer with a
-    /// fetcher takes a parcel if the fetcher has just sent a parcel.
+    /// Runs one turn of a worker. A worker that only fetches takes a window. A worker that only writes takes a parcel.
+    /// A worker with both roles takes a window, and then a parcel if it sent a parcel in this turn.
     ///
-    /// Returns false if the worker has taken its end message. If a fetcher has no writer, the turn in which it takes
-    /// its end message also sends one end message to the writers. A fetcher with a writer sends no end message, because
-    /// another worker's writer could take the end message instead of a parcel.
+    /// Returns false if the worker has taken its end message. A worker that only fetches takes its end message, and
+    /// then sends one end message to the writers. A worker with both roles sends no end message, because another worker
+    /// could take this message instead of a parcel.
     pub fn take_turn(&self, worker: &mut Worker<S, L>) -> bool
         requires source { S.source ≡ self.now.source.now.1.db }
         requires idle { IsIdle self.now.channels.now (option_copied self.now.board) (G.may_stop self.now.gate.now)

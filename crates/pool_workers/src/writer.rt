@@ -109,8 +109,8 @@ impl<F: WriteFilter, S: SourceBrand, T: TargetBrand<F>, L: Ledger, G: Gate, R: W
 
     /// Settles a parcel and records the low water at the target. The writer stops if a call fails, or if the gate (the
     /// callback that observes and may stop workers) returns `Stop`. If the run has a progress board, the call adds the
-    /// documents to the writer's read count on the board before it settles the documents. The call adds the settled
-    /// documents to the writer's settled count on the board before it calls the gate.
+    /// documents to the writer's read count on the board before it settles the documents. After settling, the call adds
+    /// the documents to the writer's settled count on the board, and then calls the gate.
     fn settle_and_record(
         &self,
         share: &mut Share<L>,
@@ -165,7 +165,8 @@ impl<F: WriteFilter, S: SourceBrand, T: TargetBrand<F>, L: Ledger, G: Gate, R: W
         ensures shows { HasWritten (option_copied self.now.board) share.old.amount share.new.amount (halt_in result)
             seat.old seat.new }
     {
-        // The page must live until the lock is released, so that its rows are not dropped while the lock is held.
+        // The page must live until the lock is released, because dropping its rows earlier would lengthen the time
+        // under the lock.
         let page = found.page(self.alloc)?;
         let fetched = found.fetch(self.alloc, self.source, self.prepares())?;
         let settled = self.settle_and_record(share, seat, number, fetched);
@@ -173,9 +174,10 @@ impl<F: WriteFilter, S: SourceBrand, T: TargetBrand<F>, L: Ledger, G: Gate, R: W
         settled
     }
 
-    /// Settles and counts the parcel that the writer received last, or stores the reason why the writer halts. The
-    /// reason is `CountFull` only if the writer's count is full. The reason is `BoardFull` only if the writer's read
-    /// counter on the progress board would exceed its maximum.
+    /// Settles the parcel that the writer received last, and counts the parcel. If the writer must halt, the call
+    /// stores the reason in `stopped`. The reason is `CountFull` only if the writer's count of parcels is at its
+    /// maximum. The reason is `BoardFull` only if the writer's read counter on the progress board would exceed its
+    /// maximum.
     fn write(&self, writer: &mut Writer<S, L>, number: u64, found: Found<S>)
         requires source { S.source ≡ self.now.source.now.1.db }
         requires knows { WriterKnows ((number, length found.docs) ∷ []) writer.old × (writer.old.stopped ≡ None) }
@@ -201,8 +203,8 @@ impl<F: WriteFilter, S: SourceBrand, T: TargetBrand<F>, L: Ledger, G: Gate, R: W
     }
 
     /// Creates a writer. The writer gets a part of `parcels`, and may therefore use the channel of parcels. The writer
-    /// also gets a part of `all`, and counts the documents that it settles on this part. If the run has a progress
-    /// board, the writer also gets the last seat in `seats`.
+    /// also gets a share of `all`, and counts its settled documents in this share. If the run has a progress board, the
+    /// writer also gets the last seat in `seats`.
     pub fn writer_here(
         &self,
         parcels: &mut ParcelPass<S>,

@@ -41,8 +41,8 @@ impl Board {
     }
 }
 
-/// Creates a table of counters with the value 0, and the dealer (the value that creates access tokens, called seats,
-/// for the counters).
+/// Creates a table of counters with the value 0, and the table's dealer. The dealer creates the seats, which are access
+/// tokens for the counters.
 fn lay(alloc: Global, workers: usize) -> Result<(BoardTable, Place), AllocError>
     requires { (0 < workers) × (workers ≤ 64) }
     ensures { IfOk result
@@ -53,8 +53,8 @@ fn lay(alloc: Global, workers: usize) -> Result<(BoardTable, Place), AllocError>
     lay_words(alloc, words.as_slice(), workers)
 }
 
-/// Creates a table of counters with the given values, and the dealer (the value that creates access tokens, called
-/// seats, for the counters).
+/// Creates a table of counters with the given values, and the table's dealer. The dealer creates the seats, which are
+/// access tokens for the counters.
 fn lay_words(
     alloc: Global,
     words: &[u64],

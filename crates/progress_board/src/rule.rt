@@ -16,9 +16,8 @@ pub struct SeatView {
     pub settles: LinkedList<u64>,
 }
 
-/// The rule that the counters of a board always satisfy. On a board of k workers, the counters 0 to k - 1 count the
-/// documents that each worker has read. On a board of k workers, the counters k to 2k - 1 count the documents that each
-/// worker has settled.
+/// The rule that the counters of a board always satisfy. On a board of k workers, counter i is the number of documents
+/// that worker i has read. Counter k + i is the number of documents that worker i has settled.
 pub struct BoardRule;
 
 impl TableRule<(), SeatView, u64> for BoardRule {
@@ -49,7 +48,7 @@ impl Play<(), SeatView> for AddsSettled {
     ghost then = { λ st v n w. (w.0 ≡ added_settled v.0 st.first) × (w.1 ≡ v.1) };
 }
 
-/// The step in which a seat (an access token for a progress board) loads a worker's read counter.
+/// The step that loads a worker's read counter through a seat (an access token for a progress board).
 pub struct LooksAtRead;
 
 impl Play<(), SeatView> for LooksAtRead {
@@ -59,7 +58,7 @@ impl Play<(), SeatView> for LooksAtRead {
     ghost then = { λ st v n w. SeesRead v.0 st.word n w.0 × (w.1 ≡ v.1) };
 }
 
-/// The step in which a seat (an access token for a progress board) loads a worker's settled counter.
+/// The step that loads a worker's settled counter through a seat (an access token for a progress board).
 pub struct LooksAtSettled;
 
 impl Play<(), SeatView> for LooksAtSettled {
@@ -69,7 +68,7 @@ impl Play<(), SeatView> for LooksAtSettled {
     ghost then = { λ st v n w. SeesSettled v.0 (st.word - length v.0.reads) n w.0 × (w.1 ≡ v.1) };
 }
 
-/// The step in which the creator of a board's seats (access tokens) creates a worker's seat with the worker's number.
+/// The step that creates a worker's seat (access token) on a board. The seat has the worker's number.
 pub struct ToWorker;
 
 impl Split<SeatView> for ToWorker {
@@ -80,7 +79,7 @@ impl Split<SeatView> for ToWorker {
     ghost right = { hired };
 }
 
-/// The step in which the creator of a board's seats (access tokens) creates a viewer's seat.
+/// The step that creates a viewer's seat (access token) on a board.
 pub struct ToViewer;
 
 impl Split<SeatView> for ToViewer {

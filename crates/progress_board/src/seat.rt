@@ -7,8 +7,8 @@ use crate::steps::Place;
 /// A seat (an access token for a progress board). A seat belongs to a viewer, or to a worker with a number and two
 /// counters.
 ///
-/// For each counter of the board, a seat knows a lower bound: the greatest value that the seat knows to have been in
-/// the counter. Only the holder of a worker's seat can change that worker's counters.
+/// A seat knows a lower bound of each counter of the board. The bound is the greatest value that the counter, as far as
+/// the seat knows, has reached. Only the holder of a worker's seat can change that worker's counters.
 #[derive(Drop)]
 pub struct BoardSeat {
     pub(crate) place: Place,

@@ -12,7 +12,7 @@ use std::alloc::Global;
 /// The table of a board's counters, two for each worker. The counters always satisfy the rule `BoardRule`.
 pub(crate) type BoardTable = Table<(), SeatView, u64, BoardRule, Global>;
 
-/// A seat's access to the counters of a board, with the facts that the seat has about the counters.
+/// The part of a seat that gives access to a board's counters, and that has the known facts about the counters.
 pub(crate) type Place = Seat<(), SeatView>;
 
 /// Loads the read counter of worker `i`.

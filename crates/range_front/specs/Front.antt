@@ -75,8 +75,7 @@ end_from start (w ∷ ws) = end_from w.hi ws
 abbrev pub end_of : FrontValue → ℕ
 end_of f = end_from f.start f.windows
 
--- The upper bound of the last window in the longest prefix of windows that are all done, or the start if the first
--- window is not done.
+-- The end of the done windows at the beginning of front f, or the start of f if f does not begin with a done window.
 abbrev pub low_water : FrontValue → ℕ
 low_water f = end_from f.start (take_while (λ w. w.done) f.windows)
 
@@ -85,9 +84,8 @@ abbrev pub above_low_water : List FrontWindow → List FrontWindow
 above_low_water [] = []
 above_low_water (w ∷ ws) = if w.done then above_low_water ws else w ∷ ws
 
--- The number of maximal groups of adjacent done windows in a list, without a group that begins before the list. If
--- `before` is true, a done window directly precedes the list, and done windows at the start of the list continue this
--- window's group.
+-- The number of maximal groups of adjacent done windows that begin within a list. If `before` is true, a done window
+-- directly precedes the list, and done windows at the start of the list do not begin a new group.
 abbrev pub run_count : Bool → List FrontWindow → ℕ
 run_count before [] = 0
 run_count before (w ∷ ws) = (if w.done then (if before then 0 else 1) else 0) + run_count w.done ws

@@ -81,7 +81,8 @@ end_of-finished f lo hi = end-finished f.start f.windows lo hi
 pub bounds-finished : (f : FrontValue) (lo hi : ℕ) → bounds (finished f lo hi) ≡ bounds f
 bounds-finished f lo hi = bounds-finished_from f.start f.windows lo hi
 
--- After `finish` marks a window as done, exactly this window and the windows that were done before are done.
+-- After a call of `finish`, the done windows are the windows that were done before, and the window that the call
+-- finished.
 pub is_done-finished : (f : FrontValue) (lo hi a b : ℕ) → is_done (finished f lo hi) a b ≡ (is_done f a b || (is_window f lo hi && ((lo == a) && (hi == b))))
 is_done-finished f lo hi a b = done-finished_from f.start f.windows lo hi a b
 

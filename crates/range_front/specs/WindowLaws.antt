@@ -1,5 +1,5 @@
 -- Lemmas about fronts (lists of adjacent windows of sequences), proved by recursion over the list of windows. The
--- module `FrontLaws` states the lemmas of `WindowLaws` for values of the type `FrontValue` instead of lists of windows.
+-- module `FrontLaws` restates the lemmas of `WindowLaws` for the type `FrontValue` instead of lists of windows.
 use Rattle.std.proofs.Common.{◌≡◌, ◌⊎◌, inl, inr, ℕ, ◌+◌, ◌<◌, ◌≤◌, Bool, true, false, cond, ◌&&◌, ◌||◌, eqb, List, [], ◌∷◌, ◌++◌, map, refl, sym, ap, ◌∙◌, arith}
 use Rattle.std.specs.List.{list_any, take_while}
 use Rattle.std.proofs.Math.Bool.{or_assoc}
@@ -88,7 +88,7 @@ low-is-end from (w ∷ ws) =
     ])
     (λ e. inl refl)
 
--- If a sequence is greater than the start of the windows, and not greater than their low water, it is in a done window.
+-- Each sequence that is above the start of the windows, and not above their low water, is in a done window.
 pub reached-in : (from : ℕ) (ws : List FrontWindow) (q : ℕ) → Rises from ws → from < q → q ≤ low_in from ws → (lo : ℕ) × (hi : ℕ) × (lo < q) × (q ≤ hi) × (done_in from ws lo hi ≡ true)
 reached-in from [] q h a l = absurd (omega arith)
 reached-in from (w ∷ ws) q h a l =
@@ -170,7 +170,8 @@ bounds-finished_from from (w ∷ ws) lo hi =
     (λ e. ap (λ bs. (from, w.hi) ∷ bs) (bounds-finished_from w.hi ws lo hi))
     (λ e. ap (λ bs. (from, w.hi) ∷ bs) (bounds-finished_from w.hi ws lo hi))
 
--- A window is done after a call of `finish` exactly if it was done before or is the window that the call finished.
+-- After a call of `finish`, the done windows are the windows that were done before, and the window that the call
+-- finished.
 pub done-finished_from : (from : ℕ) (ws : List FrontWindow) (lo hi a b : ℕ) → done_in from (finished_from from ws lo hi) a b ≡ (done_in from ws a b || (window_in from ws lo hi && (eqb lo a && eqb hi b)))
 done-finished_from from [] lo hi a b = refl
 done-finished_from from (w ∷ ws) lo hi a b =

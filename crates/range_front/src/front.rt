@@ -22,8 +22,8 @@ pub struct Front {
     ranges: Vec<DoneRange>,
 }
 
-// `Drop` is implemented by hand, because each crate that owns a `Front` would have to prove the code of
-// `#[derive(Drop)]` again (docs/DECISIONS.md, "Letting values go").
+// `Front` implements `Drop` by hand. With `#[derive(Drop)]`, each crate that owns a `Front` would have to prove the
+// derived code again (docs/DECISIONS.md, "Letting values go").
 impl Drop for Front {
     fn drop(self) {
         let Front {
@@ -158,8 +158,8 @@ impl Front {
         is_window(self.start, &self.ends, lo, hi) && is_covered(self.mark, &self.ranges, hi)
     }
 
-    /// Returns the low water (docs/PROFILE.md, "Windows and low water"). The low water is the end of the longest prefix
-    /// of windows that are all done, or the start if the first window is not done.
+    /// Returns the low water (docs/PROFILE.md, "Windows and low water"). The low water is the end of the longest
+    /// prefix of done windows, or the front's start if this prefix is empty.
     pub fn low_water(&self) -> u64
         ensures value { result ≡ low_water self.now.front }
         ensures front { IsFront self.now.front }
@@ -167,7 +167,7 @@ impl Front {
         self.mark
     }
 
-    /// Returns the number of maximal groups of adjacent done windows above the low water.
+    /// Returns the number of ranges of done windows above the low water. Adjacent done windows form one range.
     pub fn range_count(&self) -> usize
         ensures value { result ≡ range_count self.now.front }
         ensures front { IsFront self.now.front }

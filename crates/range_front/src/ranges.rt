@@ -13,7 +13,7 @@ pub(crate) struct DoneRange {
     pub(crate) hi: u64,
 }
 
-/// Returns the index of the first range of done windows that ends at or above a given sequence.
+/// Searches the ranges of done windows, and returns the index of the first range that ends at `bound` or above.
 fn place_from(ranges: &[DoneRange], bound: u64) -> usize
     requires { (mark : ℕ) × Apart mark ranges.now }
     ensures within { result ≤ length ranges.now }
@@ -37,8 +37,8 @@ pub(crate) fn is_covered(mark: u64, ranges: &[DoneRange], hi: u64) -> bool
     }
 }
 
-/// Removes the range of done windows at the index `place`, if this range begins at `hi`. If the call removes a range,
-/// it returns the range's end, and otherwise the argument `hi`.
+/// Removes the range of done windows at the index `place`, if this range begins at `hi`. Returns the end of the removed
+/// range, or `hi` if no range was removed.
 fn absorb(ranges: &mut Vec<DoneRange>, place: usize, hi: u64) -> u64
     ensures reach { result ≡ (absorbed hi (drop place ranges.old.items)).0 }
     ensures rest { ranges.new.items ≡ take place ranges.old.items ++ (absorbed hi (drop place ranges.old.items)).1 }
@@ -53,9 +53,9 @@ fn absorb(ranges: &mut Vec<DoneRange>, place: usize, hi: u64) -> u64
     }
 }
 
-/// Marks the window `(lo, hi]` as done. The window is above the low water `mark`, and in no range of done windows. A
-/// window that begins at the low water raises the low water. A window that touches ranges of done windows is joined
-/// with these ranges.
+/// Marks the window `(lo, hi]` as done. The window is above the low water `mark`, and outside all ranges of done
+/// windows. A window that begins at the low water raises the low water. A window that touches ranges of done windows is
+/// joined with these ranges.
 ///
 /// An error changes nothing.
 pub(crate) fn join(

@@ -1,4 +1,4 @@
-//! `audit`: checks that the target covers every leaf that the common checkpoint claims.
+//! `audit`: checks that the target covers every leaf of the source's selected feed up to the common checkpoint.
 ghost use Rattle.std.specs.Prelude.{◌≡◌, ◌++◌, OnOk};
 ghost use Rattle.repl_target.specs.Audit.{hole_of};
 ghost use Rattle.json_values.specs.LineView.{line_view};

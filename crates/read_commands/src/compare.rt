@@ -1,4 +1,5 @@
-//! The command `compare`, which prints how a target differs from a source's selected feed, without using logs.
+//! The command `compare`, which prints how a target differs from a source's selected feed. The command does not use
+//! replication logs.
 ghost use Rattle.std.specs.Prelude.{◌≡◌, ◌++◌, ◌<◌, ◌≤◌, [], length, true, if◌then◌else◌, IfOk, OnOk};
 ghost use Rattle.json_values.specs.LineView.{line_view};
 ghost use Rattle.read_commands.specs.Compare.{FitsCompare, compare_left, compared_line, compared_part, comparison_lines, contradicts_line, found_part};
@@ -202,7 +203,7 @@ fn push_comparison(
     Ok(())
 }
 
-/// Prints the revision whose parent differs in the target, if such a revision exists.
+/// Prints the revision that has different parents in the source and the target, if such a revision exists.
 fn push_contradiction(
     answer: &mut Vec<u8>,
     id: &str,

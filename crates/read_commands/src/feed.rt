@@ -53,8 +53,8 @@ pub trait RowPrinter {
 pub struct NoTally;
 
 /// Appends the text of feed rows to `piece`, until `piece` has at least 65,536 bytes or all rows are printed. Each read
-/// of the feed returns at most `limit` rows. Returns true if `piece` has at least 65,536 bytes and rows of the feed may
-/// be left. Returns false if no rows of the feed are left.
+/// of the feed returns at most `limit` rows. If the result is true, `piece` has at least 65,536 bytes, and rows of the
+/// feed may be left. If the result is false, no rows of the feed are left.
 pub fn fill<P: RowPrinter>(
     alloc: Global,
     piece: &mut Vec<u8>,
@@ -134,7 +134,7 @@ fn step<P: RowPrinter>(
 }
 
 /// Returns the maximum number of feed rows that the command scans to read one page. If at most `limit` documents are
-/// selected, a page cannot have more than `limit` rows, so the read scans all remaining rows.
+/// selected, the read scans all remaining rows, because the page cannot have more than `limit` rows.
 fn scan_limit(limit: u64, chosen: Option<&Chosen>) -> u64
     requires { 0 < limit }
     ensures { 0 < result }

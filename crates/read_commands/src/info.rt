@@ -74,7 +74,7 @@ fn print(
     Ok(())
 }
 
-/// Appends the number of the database's incoming sessions, and ends the line.
+/// Appends the number of sessions in which the database is the target, and ends the line.
 fn push_sessions(answer: &mut Vec<u8>, count: usize) -> Result<(), AllocError>
     ensures { OnOk result (answer.new.items ≡ answer.old.items ++ sessions_part count) }
 {

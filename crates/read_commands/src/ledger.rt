@@ -110,7 +110,7 @@ fn push_denied(answer: &mut Vec<u8>, id: &str, rev: Rev) -> Result<(), AllocErro
     answer.extend_from_slice(b"\n")
 }
 
-/// Prints a document that contradicts the tree, because a revision has another parent in the tree.
+/// Prints a document that was refused because one of its revisions has another parent in the target's tree.
 fn push_contradicted(
     answer: &mut Vec<u8>,
     id: &str,
@@ -138,7 +138,7 @@ fn push_rev_of(answer: &mut Vec<u8>, word: &[u8], id: &str, rev: Rev) -> Result<
     push_rev(answer, &rev)
 }
 
-/// Appends a revision's two parents: the parent in the target's tree, and the parent in the ledger's document.
+/// Appends a revision's parent in the target's tree, and the revision's parent in the refused document.
 fn push_parents(answer: &mut Vec<u8>, known: Rev, given: Rev) -> Result<(), AllocError>
     ensures { OnOk result (answer.new.items ≡ answer.old.items ++ parents_part (rev_text known) (rev_text given)) }
 {

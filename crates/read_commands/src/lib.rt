@@ -1,8 +1,8 @@
 //! The read-only commands, with their parameters and output (docs/PROFILE.md, "Command lines" and "Answers").
 //!
-//! Each command has a separate source file. `feed` prints a database's feed row by row. A command whose output is
-//! produced in pieces implements `StreamingCommand` (`streaming_command`), and `rest` produces the remaining pieces of
-//! the output.
+//! Each command has a separate source file. `feed` prints a database's feed row by row. A command implements the trait
+//! `StreamingCommand` (`streaming_command`) if its output is produced in pieces. The module `rest` produces the pieces
+//! of the command's output.
 #![tactic(auto)]
 
 mod audit;

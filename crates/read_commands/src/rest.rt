@@ -1,4 +1,4 @@
-//! The rest of an output that is produced in pieces (docs/PROFILE.md, "Answers").
+//! Produces the remaining pieces of a command's output (docs/PROFILE.md, "Answers").
 ghost use Rattle.std.specs.Prelude.{◌≡◌, ◌++◌, ◌<◌, ◌≤◌, [], length, true, if◌then◌else◌, OnOk, IfOk};
 ghost use Rattle.read_commands.specs.Rest.{FitsRest, rest_left};
 
@@ -9,8 +9,8 @@ use script_databases::Databases;
 use std::alloc::{AllocError, Global};
 
 /// The part of a command's output that is still to be produced. A `Rest` has the names of the databases that it reads,
-/// and does not borrow the databases. The variants of `Rest` are boxed to keep the type `Rest` small, because the
-/// result of every script line has space for a `Rest`.
+/// and does not borrow the databases. The variants of `Rest` are boxed to keep the type small, because the result of
+/// every script line has space for a `Rest`.
 #[derive(Drop)]
 pub enum Rest {
     Compare(Box<CompareRest>),

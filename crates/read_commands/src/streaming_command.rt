@@ -27,15 +27,14 @@ pub trait StreamingCommand<L>: Sized + Drop {
 
     ghost asked: { Self → Ask };
 
-    // The parameters that a JSON object gives, if each member of the object belongs to the command and has the right
-    // type.
+    // The parameters in a JSON object, if every member belongs to the command and has the right type.
     ghost asked_in: { Data → Result Ask Refusal };
 
-    // The results that the command may have, each with the state after the command.
+    // The possible results of the command, each with the state after the command.
     ghost answers: { Answering State Ask };
 
-    /// Reads the parameters from an object. If the object does not have the form of the command, the call returns
-    /// `None`, and the line fails with `BadCommand`.
+    /// Reads the parameters from an object. Returns `None` if the object is not a valid line of the command. The line
+    /// then fails with `BadCommand`.
     fn read(line: L) -> Option<Self>
         ensures { needed (option_map asked result) ≡ asked_in (seen line) };
 

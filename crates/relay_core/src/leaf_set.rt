@@ -1,4 +1,4 @@
-//! Sets of leaves (each with its document's id), and sets of document ids.
+//! Sets of document ids, and sets of leaves together with their document ids.
 ghost use Rattle.std.specs.Prelude.{◌≡◌, ◌||◌, IfOk, OnOk};
 ghost use Rattle.relay_core.specs.Messages.{Text};
 ghost use Rattle.relay_core.specs.Views.{doc_view, docs_view};
@@ -12,7 +12,7 @@ use std::alloc::{AllocError, Global};
 /// A set of leaves. Each leaf is a pair of its document's id and the leaf revision.
 pub(crate) type LeafSet<'a> = IndexSet<(&'a str, &'a str)>;
 
-/// Whether a set of leaves has a given leaf of the document with the given id.
+/// Whether the set has the leaf `leaf` of the document `id`.
 pub(crate) fn has_leaf(leaves: &LeafSet<'_>, id: &str, leaf: &str) -> bool
     ensures { result ≡ has_leaf leaves.now.keys id.now leaf.now }
 {

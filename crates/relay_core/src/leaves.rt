@@ -21,7 +21,7 @@ pub(crate) fn have_leaves(docs: &[DocLeaves]) -> bool
     true
 }
 
-/// Whether a set of leaves has each of the given leaves of one document.
+/// Whether the set `leaves` has all leaves `revs` of the document `id`.
 fn has_each(leaves: &LeafSet<'_>, id: &str, revs: &Vec<String>) -> bool
     ensures { result ≡ list_all (λ r. has_leaf leaves.now.keys id.now r) (texts_of revs.now.items) }
 {
@@ -53,7 +53,7 @@ pub fn name_all(alloc: Global, docs: &[DocLeaves], named: &[DocLeaves]) -> Resul
     Ok(has_all(&leaves, named))
 }
 
-/// Returns the given leaves of one document that are in a set of leaves.
+/// Filters the leaves `revs` of the document `id`: returns only those that are in the set `leaves`.
 fn revs_in(
     alloc: Global,
     leaves: &LeafSet<'_>,
@@ -71,7 +71,7 @@ fn revs_in(
     Ok(kept)
 }
 
-/// Appends a document with the given leaves to a list, or appends nothing if no leaves are given.
+/// Appends a document with the leaves `revs` to a list, unless `revs` is empty.
 fn push_doc(
     alloc: Global,
     docs: &mut Vec<DocLeaves>,
@@ -88,8 +88,8 @@ fn push_doc(
     Ok(())
 }
 
-/// Returns the given documents, each with only those of its leaves that are in a set of leaves. If no leaf of a
-/// document is in the set `leaves`, the document is omitted.
+/// Copies the given documents, but only with leaves that are in the set `leaves`. If no leaf of a document is in the
+/// set `leaves`, the document is omitted.
 fn leaves_in(
     alloc: Global,
     docs: &[DocLeaves],
@@ -105,8 +105,8 @@ fn leaves_in(
     Ok(kept)
 }
 
-/// Returns the given documents with only the leaves that a response names as missing. If a response names no leaf of a
-/// document as missing, the document is not returned.
+/// Copies the given documents, but only with the leaves that a response lists as missing. The result omits documents
+/// without missing leaves.
 pub fn missing_of(
     alloc: Global,
     docs: &[DocLeaves],

@@ -17,7 +17,7 @@ use std::alloc::{AllocError, Global};
 /// The maximum number of times that a run may restart before it has recorded the end of the feed.
 const RESTARTS: u64 = 5;
 
-/// Returns the fault that a response reports, or the given fault if the response reports no fault.
+/// Returns the fault in a response, or `otherwise` if the response has no fault.
 pub(crate) fn fault_of(response: Response, otherwise: Fault) -> Fault {
     match response {
         Response::Fault(fault) => fault,
@@ -37,7 +37,8 @@ fn has_pair(entries: &Vec<LogEntry>, session: &str, seq: &str) -> bool
     false
 }
 
-/// Returns the session id and the sequence of the target's newest log entry that the source's log also has.
+/// Searches the target's log, newest entry first, and returns the first pair of session id and sequence that the
+/// source's log also has.
 fn newest_common(
     alloc: Global,
     target: &ReplicationLog,
@@ -60,7 +61,7 @@ fn newest_common(
     Ok(None)
 }
 
-/// Whether two optional pairs, each of a session and a sequence, are equal.
+/// Whether two optional pairs of a session id and a sequence are equal.
 fn is_same(a: &Option<Recorded>, b: &Option<Recorded>) -> bool
     ensures { result ≡ true → option_map pair_view a.now ≡ option_map pair_view b.now }
 {
@@ -89,8 +90,8 @@ fn checkpoint_of(alloc: Global, run: &Run) -> Result<Checkpoint, AllocError>
     })
 }
 
-/// Returns `start` (the date and the sequence at which a run started), if `start` is not `None`. If the run has no
-/// start yet, the call returns a start with the given date and sequence.
+/// Returns the date and the sequence at which a run started. If `start` is `None`, the run starts now, at the given
+/// date and sequence.
 fn start_of(
     alloc: Global,
     start: Option<Start>,
@@ -106,10 +107,9 @@ fn start_of(
     }
 }
 
-/// Begins a window (a range of the source's changes) at the newest pair of a session id and a sequence that both logs
-/// have. If no pair of a session id and a sequence is in both logs, the window begins at sequence 0. If no pair of a
-/// session id and a sequence is in both logs, the run stores a checkpoint at sequence 0 in both logs before it requests
-/// changes.
+/// Begins a window (a range of the source's changes) at the sequence of the newest entry that both logs have. An entry
+/// is common if both logs have its session id with its sequence. If the logs have no common entry, the window begins at
+/// sequence 0. The run then stores a checkpoint at sequence 0 in both logs before it requests changes.
 fn begin_window(
     alloc: Global,
     run: Run,
@@ -147,8 +147,8 @@ fn restart_notices(alloc: Global, is_anew: bool) -> Result<Vec<Notice>, AllocErr
     Ok(notices)
 }
 
-/// Requests that the target store its log. The run requests that the source store its log only after the target has
-/// stored its log.
+/// Asks the target to store its log. The run asks the source to store its log only after the target has stored the
+/// target's log.
 fn put_target(
     alloc: Global,
     run: Run,
@@ -169,7 +169,8 @@ fn put_target(
     })
 }
 
-/// Begins a window at the newest entry that both logs have, or ends the run with `LogChanged` after too many restarts.
+/// Begins a window at the newest entry that both logs have. After too many restarts, ends the run with `LogChanged`
+/// instead.
 fn anew(
     alloc: Global,
     run: Run,
@@ -210,8 +211,8 @@ pub(crate) fn after_target_log(alloc: Global, run: Run, response: Response) -> P
 }
 
 /// Continues a run after both logs were read. The run stores both logs if its window is open and the newest common
-/// entry of both logs has not changed since the window began. If the run's window is not open, or the newest common
-/// entry has changed, the run begins a new window (`anew`).
+/// entry is the same as when the window began. If the window is not open, or the newest common entry has changed, the
+/// run begins a new window (`anew`).
 pub(crate) fn after_source_log(
     alloc: Global,
     run: Run,
@@ -243,8 +244,8 @@ fn after_conflict(alloc: Global, mut run: Run) -> Phase
     quiet(alloc, run, Stage::TargetLog)
 }
 
-/// Continues a run after the target responded to the request to store the target's log. If the target stored its log,
-/// the next request is that the source store its log.
+/// Continues a run after the target responded to the request to store the target's log. If the target has stored its
+/// log, the next request asks the source to store the source's log.
 pub(crate) fn after_target_put(
     alloc: Global,
     run: Run,

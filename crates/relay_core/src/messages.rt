@@ -31,12 +31,12 @@ pub struct ChangesPage {
     pub last_seq: String,
     /// Whether the page is the last page of the feed.
     pub is_last: bool,
-    /// The number of changed documents after the page in the feed, if the server's response states this number.
+    /// The response's `pending`, if it is a number: the number of changed documents that follow the page in the feed.
     pub pending: Option<String>,
 }
 
-/// A row of a `_bulk_docs` response that reports an error for a document. An error row of `_bulk_docs` may name a
-/// revision.
+/// A row of a `_bulk_docs` response that reports an error for a document. The field `rev` is the row's revision, if the
+/// row names one.
 #[derive(Drop)]
 pub struct RowError {
     pub id: String,
@@ -53,7 +53,7 @@ pub struct LogEntry {
     pub json: String,
 }
 
-/// A replication log as one server stores it. The member `rev` is `None` if the server has no replication log.
+/// A replication log as one server stores it. If the server has no replication log, `rev` is `None`.
 #[derive(Drop)]
 pub struct ReplicationLog {
     pub rev: Option<String>,
@@ -72,7 +72,7 @@ pub enum Fault {
     NotJson(Operation),
     /// A response to `_changes` is not a page of a changes feed.
     BadFeed,
-    /// A response to `_revs_diff` is not an object of missing revisions, or names a leaf that was not requested.
+    /// A `_revs_diff` response is not an object of missing revisions, or it names a leaf that the request did not name.
     BadDiff,
     /// A response does not have the form that the given kind of request requires.
     BadAnswer(Operation),
@@ -160,8 +160,9 @@ pub enum Notice {
     Refused(RefusedLeaf),
     /// The logs have changed, so the run restarts at the newest entry that both logs have.
     Restarted,
-    /// The target has each leaf of a page, or has refused the leaf. The notice has the run's counts so far, and the
-    /// number of changed documents that follow the page in the source's feed, if this number is known.
+    /// The target has each leaf of a page, or has refused the leaf. The first field is the run's counts so far. The
+    /// second field is the number of changed documents that follow the page in the source's feed, if this number is
+    /// known.
     Progress(Counts, Option<String>),
 }
 
@@ -173,15 +174,15 @@ pub enum Request<'a> {
     /// A request for the source's changes after a sequence. A request for changes with a timeout (in milliseconds) is a
     /// longpoll request.
     GetChanges(&'a str, Option<u32>),
-    /// A request that asks the target which of the given leaves the target lacks.
+    /// A `_revs_diff` request: it asks the target which of the given leaves are missing there.
     RevsDiff(&'a [DocLeaves]),
     /// A request to copy the given leaves from the source to the target.
     Carry(&'a [DocLeaves]),
-    /// A request that a server store its replication log with a new entry.
+    /// A request to a server to store its replication log with a new entry.
     PutLog(Side, &'a ReplicationLog, &'a Checkpoint),
-    /// A request that the caller print a notice.
+    /// A request to the caller to print a notice.
     Tell(&'a Notice),
-    /// The end of the run, with the counts, the last sequence that both servers recorded, and the fault if the run
-    /// failed.
+    /// The run has ended. The fields are the fault if the run failed, the counts, and the last sequence that both
+    /// servers recorded.
     Done(Option<&'a Fault>, &'a Counts, &'a str),
 }

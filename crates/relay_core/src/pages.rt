@@ -19,8 +19,8 @@ use std::alloc::{AllocError, Global};
 /// The maximum number of times that a run tries to transfer the leaves of the same page.
 const TRIES: u64 = 5;
 
-/// Continues a run after a checkpoint, or if no checkpoint is due. The call requests the next page, or ends the run if
-/// the feed has ended and the run is not continuous.
+/// Continues a run after its checkpoint was stored, or if no checkpoint is due. The call requests the next page, or
+/// ends the run if the feed has ended and the run is not continuous.
 pub(crate) fn behind(settings: &Settings, mut run: Run, notices: Vec<Notice>) -> Phase
     ensures { (h : List Exchange) → IsReached h run → Knows h result }
 {
@@ -41,7 +41,7 @@ pub(crate) fn behind(settings: &Settings, mut run: Run, notices: Vec<Notice>) ->
     }
 }
 
-/// Continues a run once the target has, or has refused, each leaf of a page.
+/// Continues a run after every leaf of a page is stored at the target or was refused by the target.
 fn onward(settings: &Settings, run: Run, notices: Vec<Notice>) -> Phase
     ensures { (h : List Exchange) → IsReached h run → Knows h result }
 {
@@ -71,7 +71,7 @@ fn counted(counts: Counts, checked: u64, found: u64, failures: u64) -> Counts
     }
 }
 
-/// Returns the notices of a page: one for each refused leaf, and one for the progress if the settings request progress.
+/// Returns the notices of a page: one for each refused leaf, and a progress notice if `progress` is true.
 fn notices_of(
     alloc: Global,
     refused: Vec<RefusedLeaf>,
@@ -89,7 +89,7 @@ fn notices_of(
     Ok(notices)
 }
 
-/// Counts a page of which the target has, or has refused, each leaf, and continues the run.
+/// Counts a page, and continues the run. Each leaf of the page is stored at the target or was refused by the target.
 fn accounted(
     alloc: Global,
     settings: &Settings,
@@ -120,8 +120,8 @@ fn accounted(
     Ok(onward(settings, run, notices))
 }
 
-/// Requests the transfer of the next documents. If all documents were transferred, the call asks the target again which
-/// leaves the target lacks.
+/// Requests the transfer of the next documents. After the last transfer, the run asks the target again which leaves are
+/// missing there.
 fn ask_carry(alloc: Global, run: Run, mut transfer: Transfer) -> Phase
     ensures { (h : List Exchange) → IsOpenAt h run transfer → Knows h result }
 {
@@ -133,9 +133,9 @@ fn ask_carry(alloc: Global, run: Run, mut transfer: Transfer) -> Phase
     quiet(alloc, run, Stage::Carry(transfer))
 }
 
-/// Continues a run after one part of a page's documents was transferred to the target. The call raises `run.carry`, the
-/// maximum size of a part, to twice the size of the transferred part if this is greater. The call caps `run.carry` at
-/// `settings.carry`.
+/// Continues a run after one part of a page's documents was transferred to the target. `run.carry` is the maximum size
+/// of a part. If twice the size of the transferred part is greater, the call raises `run.carry` to this value. The call
+/// caps `run.carry` at `settings.carry`.
 fn advance(alloc: Global, settings: &Settings, mut run: Run, mut transfer: Transfer) -> Phase
     ensures { (h : List Exchange) → IsOpenAt h run transfer → Knows h result }
 {
@@ -309,8 +309,8 @@ pub(crate) fn after_carry(
     }
 }
 
-/// Requests a page again, because the target neither has nor has refused a leaf of the page. After the last try, the
-/// call ends the run with `Unaccounted`.
+/// Requests a page again, because a leaf of the page is missing at the target and was not refused. After the last try,
+/// the call ends the run with `Unaccounted`.
 fn retry(
     alloc: Global,
     mut run: Run,

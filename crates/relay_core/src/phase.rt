@@ -32,18 +32,18 @@ pub struct Start {
 pub struct Run {
     /// The newest pair of a session and a sequence that both logs had when the window began.
     pub begin: Option<Recorded>,
-    /// The sequence up to which the target has, or has refused, each leaf.
+    /// The sequence up to which each leaf is stored at the target or was refused by the target.
     pub since: String,
     /// Whether the current window (the source's changes since `begin`) is open. If the window is open, the run must
     /// still store a checkpoint for the window in both logs.
     pub is_open: bool,
     /// The number of pages with rows in the current window.
     pub pages: u64,
-    /// Whether the page that the run read last was the last page of the feed.
+    /// Whether the page that was read most recently is the feed's last page.
     pub has_ended: bool,
     /// Whether the run requests the next page by longpoll.
     pub waits: bool,
-    /// The largest number of documents that the next part of a transfer may have.
+    /// The maximum number of documents in the next part of a transfer.
     pub carry: usize,
     /// The number of times that the run has repeated the request for the current page.
     pub tries: u64,
@@ -51,7 +51,7 @@ pub struct Run {
     pub restarts: u64,
     pub counts: Counts,
     pub start: Option<Start>,
-    /// The date of the last response that had a date.
+    /// The date of the newest response with a date.
     pub date: String,
 }
 
@@ -73,14 +73,14 @@ pub struct Transfer {
     pub end: PageEnd,
     /// The leaves of the page that the target lacked before the transfer.
     pub missing: Vec<DocLeaves>,
-    /// The number of documents in those parts of the transfer that have finished.
+    /// The number of documents in the finished parts of the transfer.
     pub carried: usize,
     /// The number of documents in the current part of the transfer.
     pub size: usize,
-    /// The error rows that refuse a leaf, from all finished parts of the transfer. Each row in `refused` is a row of a
+    /// The error rows that refuse leaves, from all finished parts of the transfer. Each row in `refused` comes from a
     /// `_bulk_docs` response, or was created by the relay for a document that is too large for the target.
     pub refused: Vec<RowError>,
-    /// The error rows that are not in `refused`, from the `_bulk_docs` responses to all finished parts of the transfer.
+    /// The error rows that do not refuse a leaf, from the `_bulk_docs` responses to all finished parts of the transfer.
     pub others: Vec<RowError>,
 }
 
@@ -120,7 +120,7 @@ pub struct Phase {
     pub stage: Stage,
 }
 
-/// Returns the sequence in an optional pair of a session id and a sequence, or `0` if no pair is given.
+/// Returns the sequence in `pair`, or `0` if `pair` is `None`.
 pub(crate) fn seq_of(pair: &Option<Recorded>) -> &str
     ensures { result.now ≡ seq_of (option_map pair_view pair.now) }
 {
@@ -162,8 +162,8 @@ impl Phase {
         ))
     }
 
-    /// Returns the next request of the run. As long as the caller has not printed all notices (messages for the user),
-    /// the returned request asks the caller to print the next notice.
+    /// Returns the next request of the run. If notices (messages for the user) are still unprinted, the request asks
+    /// the caller to print the next notice.
     pub fn request(&self) -> Request<'_>
         ensures { request_view result ≡ asked_of self.now }
     {
@@ -174,7 +174,8 @@ impl Phase {
     }
 }
 
-/// Returns a phase (the state of a run between two requests) that has the given run, the given stage and no notices.
+/// Creates a phase with the given run and stage, and without notices. A phase is the state of a run between two
+/// requests.
 pub(crate) fn quiet(alloc: Global, run: Run, stage: Stage) -> Phase
     ensures run { result.run ≡ run }
     ensures stage { result.stage ≡ stage }
@@ -207,7 +208,7 @@ fn wait_of(run: &Run) -> Option<u32>
     Some(if run.is_open { 5000 } else { 60000 })
 }
 
-/// Returns the part of a transfer's documents that the current request transfers.
+/// Returns the documents in the current part of a transfer.
 pub(crate) fn part_of(transfer: &Transfer) -> &[DocLeaves]
     ensures { docs_view result.now ≡ part_of transfer.now }
 {

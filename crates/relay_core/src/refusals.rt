@@ -1,4 +1,4 @@
-//! The error rows of a transfer's responses, and the leaves that these rows refuse.
+//! Functions for the error rows in the responses to a transfer, and for the leaves that these rows refuse.
 ghost use Rattle.std.specs.Prelude.{◌≡◌, ◌+◌, ◌++◌, IfOk, OnOk, option_map, length, string_bytes};
 ghost use Rattle.relay_core.specs.Views.{texts_of, docs_view, row_error_view, row_errors_view};
 ghost use Rattle.relay_core.specs.Leaves.{is_refusal, is_about, are_about, refusals_in, are_all_about, cover, too_large_row, too_large_rows, leaf_count};
@@ -6,14 +6,14 @@ ghost use Rattle.relay_core.specs.Leaves.{is_refusal, is_about, are_about, refus
 use crate::messages::{DocLeaves, RefusedLeaf, RowError, Unaccounted};
 use std::alloc::{AllocError, Global};
 
-/// Whether an error row says that the target refuses the row's document.
+/// Whether an error row means that the target refuses the document: the row's error is `forbidden` or `unauthorized`.
 fn is_refusal(row: &RowError) -> bool
     ensures { result ≡ is_refusal (row_error_view row.now) }
 {
     row.error.as_str() == "forbidden" || row.error.as_str() == "unauthorized"
 }
 
-/// Appends a response's rows that refuse a document to `refused`, and the response's other rows to `others`.
+/// Sorts the rows of a response: appends rows that refuse a document to `refused`, and all other rows to `others`.
 pub(crate) fn sort_rows(
     rows: Vec<RowError>,
     refused: &mut Vec<RowError>,
@@ -31,7 +31,7 @@ pub(crate) fn sort_rows(
     Ok(())
 }
 
-/// Returns the error row that the relay creates for a leaf whose document is too large for the target.
+/// Creates the error row for a leaf whose document is too large for the target.
 fn too_large_row(alloc: Global, id: &str, leaf: &str) -> Result<RowError, AllocError>
     ensures { IfOk result (λ r. row_error_view r ≡ too_large_row id.now leaf.now) }
 {
@@ -57,8 +57,8 @@ pub(crate) fn push_too_large(
     Ok(())
 }
 
-/// Whether an error row with the optional revision `rev` concerns a leaf. A row without a revision concerns every leaf
-/// of the row's document.
+/// Whether an error row concerns a leaf. `rev` is the row's revision, if the row has one. A row without a revision
+/// concerns every leaf of the row's document.
 fn is_about(rev: &Option<String>, leaf: &str) -> bool
     ensures { result ≡ is_about (option_map string_bytes rev.now) leaf.now }
 {
@@ -80,7 +80,7 @@ fn are_about(rows: &[RowError], id: &str, leaf: &str) -> bool
     false
 }
 
-/// Whether the error rows `rows` have a row for each leaf in `revs` of the document `id`.
+/// Whether each leaf in `revs`, of the document `id`, has an error row in `rows`.
 fn are_all_about(rows: &[RowError], id: &str, revs: &Vec<String>) -> bool
     ensures { result ≡ are_all_about (row_errors_view rows.now) id.now (texts_of revs.now.items) }
 {
@@ -105,7 +105,7 @@ pub(crate) fn cover(rows: &[RowError], docs: &[DocLeaves]) -> bool
 }
 
 /// Returns a document's first error row that names the given leaf. If no row names the leaf, returns the document's
-/// first row that names no revision.
+/// first row without a revision.
 fn row_about<'a>(rows: &'a [RowError], id: &str, leaf: &str) -> Option<&'a RowError> {
     let mut general = None;
     for row in rows {
@@ -127,7 +127,7 @@ fn row_about<'a>(rows: &'a [RowError], id: &str, leaf: &str) -> Option<&'a RowEr
     general
 }
 
-/// Returns a refused leaf, with the error and the reason of the error row that concerns the leaf.
+/// Creates a `RefusedLeaf` with the error and the reason from the leaf's error row.
 fn refused_leaf(
     alloc: Global,
     rows: &[RowError],
@@ -175,8 +175,7 @@ pub(crate) fn refused_leaves(
     Ok(leaves)
 }
 
-/// Returns the number of a document's leaves that no error row in the list `rows` concerns, and the first of these
-/// leaves.
+/// Counts a document's leaves without an error row in `rows`, and returns the count and the first of these leaves.
 fn first_open<'a>(rows: &[RowError], doc: &'a DocLeaves) -> (u64, Option<&'a str>) {
     let mut count: u64 = 0;
     let mut first = None;
@@ -191,7 +190,7 @@ fn first_open<'a>(rows: &[RowError], doc: &'a DocLeaves) -> (u64, Option<&'a str
     (count, first)
 }
 
-/// Returns the error and the reason of a document's first error row in the list `others`.
+/// Finds the document's first error row in `others`, and returns the row's error and reason.
 fn error_of(
     alloc: Global,
     others: &[RowError],
@@ -207,9 +206,9 @@ fn error_of(
     Ok(None)
 }
 
-/// Returns the number of the given leaves that no error row in the list `refused` concerns, and the first of these
-/// leaves. If the list `others` has an error row about the document of this leaf, the result includes the first such
-/// row's error and reason.
+/// Counts the leaves in `docs` without an error row in `refused`, and returns the count and the first of these leaves.
+/// If `others` has error rows about this leaf's document, the result also has the error and the reason of the first
+/// such row.
 pub(crate) fn unaccounted(
     alloc: Global,
     refused: &[RowError],

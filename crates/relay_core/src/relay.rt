@@ -1,4 +1,5 @@
-//! One step of a run: computes the run's next phase from its phase and from the response to the phase's request.
+//! One step of a run: computes the next phase from the current phase and from the response to the current phase's
+//! request.
 ghost use Rattle.std.specs.Prelude.{◌≡◌, ◌∷◌, List, IfOk, is_some, slice_get};
 ghost use Rattle.relay_core.specs.Messages.{Exchange, exchange_of};
 ghost use Rattle.relay_core.specs.Views.{response_view};
@@ -54,11 +55,11 @@ fn is_telling(notices: &Vec<Notice>, told: usize) -> bool
     notices.get(told).is_some()
 }
 
-/// Continues a run whose state is `phase`, after the response to the request that `Phase::request` returns. The
+/// Continues a run from its state `phase`. `response` is the response to the request that `Phase::request` returns. The
 /// argument `date` is the response's date, or empty if the response has no date.
 ///
-/// The contract says that if `phase` is consistent with the earlier exchanges, the returned phase is consistent with
-/// these exchanges and the new exchange.
+/// The contract says: if `phase` is consistent with all earlier exchanges (requests and responses), the returned phase
+/// is consistent with these and the new exchange.
 pub fn step(
     alloc: Global,
     settings: &Settings,

@@ -25,7 +25,8 @@ pub(crate) fn fault_name(fault: &Fault) -> &'static str
     }
 }
 
-/// Returns a comma and the description of a `_bulk_docs` row's error, or an empty string if there is no error.
+/// Returns a comma and a description of the error in a `_bulk_docs` row. If the row has no error, returns an empty
+/// string.
 fn row_error_text(alloc: Global, error: &Option<(String, String)>) -> Result<String, AllocError>
     ensures { IfOk result (λ s. string_bytes s
         ≡ row_error_text (option_map (λ e. (string_bytes e.0, string_bytes e.1)) error.now)) }

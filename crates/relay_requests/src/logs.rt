@@ -132,14 +132,14 @@ pub(crate) struct Recorded<'a> {
     pub(crate) seq: &'a str,
 }
 
-/// Returns how many of the kept entries of a log belong to a session.
+/// Returns the number of kept log entries that belong to a session.
 fn count_of_session(kept: &[Recorded<'_>], session_id: &str) -> usize
     ensures { result ≡ count_by (is_of_session session_id.now) (kept_view kept.now) }
 {
     kept.iter().filter(|r| r.session_id == session_id).count()
 }
 
-/// Whether one of the kept entries of a log has the given session id and the given recorded sequence.
+/// Whether the kept log entries contain an entry with the given session id and the given recorded sequence.
 fn has_entry(kept: &[Recorded<'_>], session_id: &str, seq: &str) -> bool
     ensures { result ≡ list_any (λ r. is_recorded session_id.now seq.now (recorded_view r)) kept.now }
 {
@@ -147,7 +147,7 @@ fn has_entry(kept: &[Recorded<'_>], session_id: &str, seq: &str) -> bool
         .any(|r| r.session_id == session_id && r.seq == seq)
 }
 
-/// Whether one of the log entries `kept` has the session id `session_id` and the recorded sequence `seq`.
+/// Whether the session `session_id` has recorded the sequence `seq` in one of the log entries `kept`.
 fn is_recorded(kept: &[Recorded<'_>], session_id: &str, seq: &str) -> bool
     ensures { result ≡ list_any (is_recorded session_id.now seq.now) (kept_view kept.now) }
 {
@@ -168,7 +168,7 @@ fn has_space_for(kept: &[Recorded<'_>], session_id: &str) -> bool
     count_of_session(kept, session_id) < 2
 }
 
-/// Whether a log that keeps the newer entries `kept` also keeps the older entry `entry`.
+/// Whether a log keeps the older entry `entry` in addition to the newer entries `kept`.
 fn may_keep(kept: &[Recorded<'_>], entry: &LogEntry) -> bool
     ensures { result ≡ may_keep (kept_view kept.now) (entry_view entry.now) }
 {
@@ -178,7 +178,7 @@ fn may_keep(kept: &[Recorded<'_>], entry: &LogEntry) -> bool
         && !is_recorded(kept, session_id, entry.recorded_seq.as_str())
 }
 
-/// Writes a comma and an older entry, if the log keeps the entry.
+/// Writes the older entry `entry` after a comma if the log keeps this entry.
 fn put_if_kept<'a>(
     out: &mut Vec<u8>,
     kept: &mut Vec<Recorded<'a>>,
@@ -219,7 +219,8 @@ fn put_older(
     Ok(())
 }
 
-/// Returns the JSON text of the log that a server last returned, with a new entry before the log's history.
+/// Returns the JSON text of a replication log with a new entry. The log's history begins with the new entry, and
+/// continues with the kept entries of the log `log`.
 pub(crate) fn log_body(
     alloc: Global,
     session_id: &str,

@@ -91,8 +91,8 @@ pub(crate) fn exit_status(fault: Option<&Fault>, counts: &Counts) -> &'static st
     }
 }
 
-/// Writes the member `ok` of a run's report. If the run ended with a fault, `put_ok` also writes the members `error`
-/// (the fault's name) and `reason` (the fault's text).
+/// Writes the member `ok` of a run's report. If the run ended with a fault, `put_ok` also writes the fault's name
+/// (`error`) and the fault's text (`reason`).
 fn put_ok(alloc: Global, writer: &mut Writer, fault: Option<&Fault>) -> Result<(), AllocError>
     ensures before { OnOk result (writer.new.before ≡ writer.old.before) }
     ensures tokens { OnOk result (writer.new.tokens

@@ -15,7 +15,8 @@ pub struct RequestOptions {
     pub batch: u64,
     /// The name of a filter for the changes feed.
     pub filter: String,
-    /// Query parameters that the caller adds to the request for changes, percent-encoded by the caller.
+    /// Query parameters that are added to the request for changes. The caller has already percent-encoded these
+    /// parameters.
     pub query: String,
     /// The selection of documents, on one line, which is the body of the request for changes.
     pub choice: String,

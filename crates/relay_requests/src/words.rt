@@ -16,7 +16,7 @@ pub(crate) fn side_text(side: Side) -> &'static str
     }
 }
 
-/// Returns the name that the message of a fault uses for the given kind of request.
+/// Returns the name of a kind of request for use in error messages.
 pub(crate) fn operation_text(operation: Operation) -> &'static str
     ensures { result.now ≡ operation_text operation }
 {

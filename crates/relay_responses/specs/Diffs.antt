@@ -19,8 +19,8 @@ last_members found (member k j ms) = last_members (insert_entry bytes_eq found k
 abbrev pub doc_of : Text → List Text → DocView
 doc_of id revs = (id, revs)
 
--- The document and the missing leaves that one member of a `_revs_diff` response names. The name of a `_revs_diff`
--- member is the document's id, and the list `missing` in the member's value has the missing leaves.
+-- The document and the missing leaves that one member of a `_revs_diff` response names. In a `_revs_diff` response, the
+-- name of each member is a document id, and the member's value has the missing leaves in the list `missing`.
 abbrev pub missing_at : Text × Json → Option DocView
 missing_at m = option_map (doc_of m.0) (option_and_then (each_item as_str) (items_at (codes "missing") m.1))
 

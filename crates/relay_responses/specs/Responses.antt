@@ -18,7 +18,7 @@ use Rattle.relay_responses.specs.Logs.{row_errors_in, log_in, no_log, is_stored}
 abbrev pub is_success : ℕ → Bool
 is_success status = status == 200 || status == 201 || status == 202
 
--- Whether a `carry` request that failed with the given status may succeed with fewer documents.
+-- Whether the status of a failed `carry` request means that the request may succeed with fewer documents.
 abbrev pub is_rejection : ℕ → Bool
 is_rejection status =
     nat_le 400 status && nat_lt status 500 && not (status == 401 || status == 403 || status == 404 || status == 408 || status == 429)

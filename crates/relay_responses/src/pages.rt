@@ -165,8 +165,8 @@ fn merged(alloc: Global, rows: &[DocLeaves]) -> Result<Vec<DocLeaves>, AllocErro
     copied_docs(alloc, &docs)
 }
 
-/// Returns the number of changed documents after a page, or `Some(None)` if the member `pending` is missing or null.
-/// Returns `None` if the member `pending` exists, but is neither a number nor null.
+/// Returns the member `pending` of a page, which is the number of changed documents after the page. Returns
+/// `Some(None)` if `pending` is missing or null, and `None` if `pending` has another type.
 fn pending_of(alloc: Global, value: &Value<'_>) -> Result<Option<Option<String>>, AllocError>
     ensures { IfOk result (λ o. option_map (option_map string_bytes) o
         ≡ pending_of (get (codes "pending") (value_view value.now))) }

@@ -92,7 +92,7 @@ fn diff_response(
     }
 }
 
-/// Whether a transfer that failed with a given status may succeed with fewer documents.
+/// Whether `status` means that a failed transfer may succeed with fewer documents.
 fn is_rejection(status: u16) -> bool
     ensures { result ≡ is_rejection status }
 {

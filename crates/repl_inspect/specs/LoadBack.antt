@@ -13,8 +13,8 @@ use Rattle.repl_peer.specs.peer.Writing.{after_load}
 use Rattle.repl_target.specs.replication.Replication.{IsEmpty, SameDocuments}
 use Rattle.repl_inspect.specs.Documents.{documents_at}
 
--- For each leaf of each document in a database's selected feed, a document with the leaf's ancestors and content. The
--- list follows the feed's order, and the leaves of one document are in winning order (winner first).
+-- The leaves of all documents in a database's selected feed, each as a document with the leaf's ancestors and content.
+-- The list follows the feed's order, and the leaves of one document are in winning order (winner first).
 abbrev pub all_documents : Choice → DatabaseValue → List Document
 all_documents chosen db = flat_map (λ r. documents_at db r.id) (chosen_feed chosen db 0 db.update_seq)
 

@@ -18,8 +18,8 @@ pub struct Comparison {
     differing: Vec<Rev>,
 }
 
-// `Drop` is implemented by hand, because derived code would be proved again in each crate that owns a value of this
-// type (docs/DECISIONS.md, "Letting values go").
+// A derived implementation of `Drop` would be proved again in each crate that owns a value of this type
+// (docs/DECISIONS.md, "Letting values go").
 impl Drop for Comparison {
     fn drop(self) {
         let Comparison {
@@ -62,9 +62,9 @@ impl Comparison {
     }
 
     /// Searches the missing leaves' ancestries for the first revision that has different parents at source and target.
-    /// Returns the found revision with its two parents, or `None` if no revision in these ancestries has different
-    /// parents at source and target. The missing leaves are searched in order, and each leaf's ancestry from its newest
-    /// revision to its oldest. The target would refuse the missing leaf whose ancestry has the returned revision.
+    /// Returns the found revision and its two parents, or `None` if the search finds no revision. The search takes the
+    /// missing leaves in order, and reads each leaf's ancestry from the newest revision to the oldest. If the call
+    /// returns a revision, the target would refuse the missing leaf whose ancestry contains this revision.
     pub fn contradiction(&self) -> Option<Contradiction>
         ensures { result ≡ self.now.contradiction }
     {
@@ -100,8 +100,8 @@ pub(crate) fn compare_trees(
 }
 
 /// Searches the given leaves' ancestries for the first revision that has different parents at source and target.
-/// Returns the first revision with different parents, and both parents, or `None` if the searched ancestries have no
-/// revision with different parents. The given leaves are leaves of the source's document.
+/// Returns the found revision and its two parents, or `None` if the search finds no revision. The given leaves are
+/// leaves of the source's document.
 fn first_under(
     alloc: Global,
     source: &Tree,

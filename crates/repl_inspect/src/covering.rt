@@ -1,5 +1,5 @@
-//! Compares the feed of a source with a target. The contract says when the target covers the feed, and why a leaf of a
-//! covered feed can be missing in the target's trees.
+//! Compares the feed of a source with a target. The contract of `compare_feed` relates the leaves that the target's
+//! trees lack to the leaves that the target covers.
 ghost use Rattle.std.specs.Prelude.{◌≡◌, IfOk};
 ghost use Rattle.std.specs.Option.{option_copied};
 ghost use Rattle.couch_base.specs.Feed.{chosen_feed};
@@ -17,9 +17,10 @@ use std::alloc::{AllocError, Global};
 /// Returns the totals of the differences between a source's complete or selected feed and a target. The call ignores
 /// logs, and reads the source's feed in pages.
 ///
-/// If the target's trees lack no leaf of the source's feed, the target covers the feed. If the target covers the feed,
-/// each leaf of the feed that the target's trees lack is in the ancestry of a document that the target refused. If the
-/// target covers the feed and all ledgers of the target are empty, the target's trees lack no leaf of the feed.
+/// If the target's trees contain all leaves of the source's feed, the target covers the feed. If the target covers the
+/// feed and its trees lack a leaf of the feed, the target has refused a document whose ancestry contains this leaf. If
+/// the target covers the feed and all ledgers of the target are empty, the target's trees contain all leaves of the
+/// feed.
 pub fn compare_feed<F: WriteFilter, G: WriteFilter>(
     alloc: Global,
     source: &Peer<F>,

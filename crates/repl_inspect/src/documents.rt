@@ -17,9 +17,9 @@ use std::alloc::{AllocError, Global};
 /// Returns, for each leaf of a stored document, a document with the leaf's known ancestry and content, winner first.
 /// The list is empty if the database does not have the document.
 ///
-/// An empty peer with enough free sequences accepts every leaf of a selected feed, if the leaves of all documents in
-/// the feed are loaded in order. After all leaves of the selected feed are loaded into an empty peer, each selected
-/// document is the same at the peer and in `database`.
+/// An empty peer with enough free sequences accepts the leaves of all selected documents if the leaves are loaded in
+/// feed order. After an empty peer has accepted the leaves of all selected documents, each selected document is the
+/// same at the peer and in `database`.
 pub fn documents_of(alloc: Global, database: &Database, id: &DocId) -> Result<Vec<Doc>, AllocError>
     ensures documents { IfOk result (λ v. v.items ≡ documents_at database.now id.now) }
     ensures documents_load_back { LoadBack database.now }

@@ -33,8 +33,8 @@ pub fn compare(
     compare_trees(alloc, ours, theirs)
 }
 
-/// Compares each document in a source's complete or selected feed with a target's database, and returns the totals of
-/// the differences (`Total`).
+/// Compares each document in a source's feed with the target's document, and returns the totals of the differences. If
+/// `chosen` is given, the call compares only the selected documents.
 pub(crate) fn compare_databases(
     alloc: Global,
     source: &Database,

@@ -7,11 +7,11 @@ use rev_core::Rev;
 /// Why a document was refused, and the revision that was the cause.
 #[derive(Clone, Copy, Debug)]
 pub enum LedgerRow {
-    /// The write filter refuses the document. The field `rev` of `Denied` is the newest revision of the document.
+    /// The write filter refuses the document. The document's newest revision is `rev`.
     Denied { rev: Rev },
     /// The ancestry of the document contradicts the tree, because a revision has different parents in the ancestry and
-    /// in the tree. The variant names the newest revision whose parent in the ancestry differs from its parent in the
-    /// tree, and names both parents.
+    /// in the tree. The newest revision with different parents is `rev`. The parent of `rev` is `known` in the tree,
+    /// but `given` in the ancestry.
     Contradicted { rev: Rev, known: Rev, given: Rev },
 }
 

@@ -1,5 +1,5 @@
-//! Read-only queries about databases and replications. The queries compare a source with a target, list documents in
-//! conflict, count a database's content, explain refused documents, and return the leaves of a document.
+//! Read-only queries about databases and replications. The queries compare a source with a target, list conflicts,
+//! count documents and revisions, explain refused documents, and return a document's leaves.
 //!
 //! No call of this crate changes a database or reads a log. The results of the calls are specified in docs/PROFILE.md,
 //! "Missing revisions", "Merging", "Leaves and the winner", "Fetching" and "Covered leaves".

@@ -35,9 +35,9 @@ replaced log e = map (λ x. if is_of e.session x then e else x) log
 abbrev pub with_entry : List EntryValue → EntryValue → List EntryValue
 with_entry log e = if holds log e.session then replaced log e else e ∷ log
 
--- The result of a put of entry e into a log, given the log's stored entry of e's session, or `None` if the log has no
--- such entry. The put fails with `Older` if the stored entry of the session has a greater recorded sequence than the
--- new entry.
+-- The result of a put of entry e into a log. The second argument is the log's stored entry of e's session, or `None` if
+-- the log has no entry of this session. The put fails with `Older` if the stored entry of the session has a greater
+-- recorded sequence than the new entry.
 abbrev pub put_beside : EntryValue → Option EntryValue → Result (Unit {0}) LogFault
 put_beside e None = Ok tt
 put_beside e (Some stored) = if nat_lt e.recorded stored.recorded then Err (faults.Older stored.recorded) else Ok tt
@@ -77,7 +77,7 @@ pub record IsCommon (source target : List EntryValue) (s : SessionId) (n : ℕ) 
   pub older : List EntryValue
   pub at_target : EntryValue
   pub at_source : EntryValue
-  -- No session of the target's log that is newer than the checkpoint's session is in the source's log.
+  -- The source's log has no session that is newer than the checkpoint's session in the target's log.
   pub target_is : target ≡ newer ++ at_target ∷ older
   pub none_newer : list_any (λ t. holds source t.session) newer ≡ false
   -- The logs of source and target both have the session of the checkpoint.
@@ -86,7 +86,7 @@ pub record IsCommon (source target : List EntryValue) (s : SessionId) (n : ℕ) 
   -- The checkpoint's sequence n is the lesser of the sequences that the two logs record for the session.
   pub lesser : n ≡ min at_source.recorded at_target.recorded
 
--- No session is both in the source's log and in the target's log.
+-- The source's log and the target's log have no session in common.
 abbrev pub IsUnshared : List EntryValue → List EntryValue → Type 0
 IsUnshared source target = list_any (λ t. holds source t.session) target ≡ false
 

@@ -43,9 +43,8 @@ insert_entry-present s (e ∷ es) x y is =
       | false ↦ λ rest. ap (λ l. e ∷ l) (insert_entry-present s es x y rest)
     ] is
 
--- Theorems about the values that a table stores by session. The function `value` maps each stored value (of type X) to
--- the value of type V that represents the stored value in contracts. The function `session` maps a value of type V to
--- the session to which the value belongs.
+-- Theorems about the values that a table stores by session. The function `value` maps a stored value of type X to its
+-- counterpart of type V in contracts. The function `session` returns the session of a value of type V.
 module _ {X V : Type 0} (value : X → V) (session : V → SessionId) where
   abbrev named : SessionId → V → Bool
   named s v = (session v).0 == s.0
@@ -68,8 +67,8 @@ module _ {X V : Type 0} (value : X → V) (session : V → SessionId) where
 
   -- ---- lookups
 
-  -- The value of an optional item, or `None`. The result is `None` if the item is absent, or if its value does not pass
-  -- the test q.
+  -- The value of an optional item, if the value passes the test q. The result is `None` if the item is absent, or if
+  -- its value does not pass the test.
   abbrev pub chosen : (V → Bool) → Option X → Option V
   chosen q None = None
   chosen q (Some x) = if q (value x) then Some (value x) else None
@@ -99,7 +98,7 @@ module _ {X V : Type 0} (value : X → V) (session : V → SessionId) where
   chosen-always None = refl
   chosen-always (Some x) = refl
 
-  -- A lookup of session s in a table returns the same value as a search for s in the table's values, newest first.
+  -- Looking up session s in a table, and searching for s in the table's values from the newest on, give the same value.
   pub find-lookup : (s : SessionId) (es : List (SessionId × X)) → IsKeyed own es → EachSessionOnce es → find (named s) (newest_first value es) ≡ option_map value (lookup (at_session s) es)
   find-lookup s es keyed once =
       find-chosen (λ _. true) (named s) s (λ v. sym (and-true (named s v))) es keyed once ∙ chosen-always (lookup (at_session s) es)
@@ -132,8 +131,8 @@ module _ {X V : Type 0} (value : X → V) (session : V → SessionId) where
   put_over-set s x [] keyed once = refl
   put_over-set s x (e ∷ es) keyed once = put_step s x e es keyed once.0 (put_over-set s x es keyed.1 once.1) (at_session s e.0) refl
 
-  -- If a table has a value for a session, a write for the session replaces exactly this value in the list of the
-  -- table's values.
+  -- If a table has a value for a session, a write for this session replaces only this value in the list of the table's
+  -- values.
   pub newest_first-set : (s : SessionId) (x : X) (es : List (SessionId × X)) → IsKeyed own es → EachSessionOnce es → newest_first value (set_value (at_session s) es x) ≡ map (put_over s x) (newest_first value es)
   newest_first-set s x es keyed once = ap reverse (put_over-set s x es keyed once) ∙ sym (map-reverse (put_over s x) (map (λ e. value e.1) es))
 

@@ -46,8 +46,8 @@ coded_rep =
     (λ r. (r.source, (r.target, r.chosen))) (λ p. record { source = p.0; target = p.1.0; chosen = p.1.1 })
     (λ _. refl)
 
--- The text of a replication id: the digits of the source's UUID, `-`, the digits of the target's UUID, and the text of
--- the selection.
+-- The text of a replication id: the source's UUID as digits, `-`, the target's UUID as digits, and the text of the
+-- selection.
 abbrev pub rep_text : RepId → List ℕ
 rep_text id = id_digits id.source ++ 45 ∷ (id_digits id.target ++ choice_digits id.chosen)
 
@@ -81,7 +81,7 @@ entry_with e session_id start_time end_time =
 abbrev pub entry_json : EntryValue → Data
 entry_json e = entry_with e (id_digits e.session.0) (time_text e.start_time) (time_text e.end_time)
 
--- The texts of log entries, separated by commas, with a comma before the first text if `later` is true.
+-- The texts of log entries, separated by commas. If `later` is true, a comma also precedes the first text.
 abbrev pub listed : Bool → List EntryValue → List ℕ
 listed later [] = []
 listed later (e ∷ es) = comma_if later ++ (compact_text (entry_json e) ++ listed true es)

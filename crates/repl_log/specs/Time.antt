@@ -5,8 +5,8 @@ use Rattle.httpdate.specs.declared.parts.Parts.{Parts}
 use Rattle.httpdate.specs.Calendar.{days_of_years, days_of_months, weekday}
 use Rattle.httpdate.specs.Text.{imf_fixdate}
 
--- The first number that passes a test, among the `left` numbers from n on. For a function f and a number x, a number m
--- passes the test if x < f (m + 1). If all `left` numbers fail, the value is the next number, n + `left`.
+-- The first number m with x < f (m + 1), among the `left` numbers that begin with n. If x < f (m + 1) is false for all
+-- `left` numbers m, the value is the next number, n + `left`.
 unfoldable pub place_from : ℕ → ℕ → (ℕ → ℕ) → ℕ → ℕ
 place_from zero n f x = n
 place_from (suc left) n f x = if nat_lt x (f (n + 1)) then n else place_from left (n + 1) f x

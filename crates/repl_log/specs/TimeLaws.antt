@@ -1,4 +1,4 @@
--- A proof that `time_text` writes timestamps as the crate httpdate writes dates.
+-- A proof that `time_text` and the crate httpdate write the same text for a date.
 use Rattle.std.proofs.Common.{◌≡◌, ℕ, zero, suc, ◌+◌, ◌-◌, ◌*◌, ◌/◌, ◌%◌, ◌<◌, ◌≤◌, true, false, nat_lt, cond, refl, sym, ap, ◌∙◌, arith}
 use Rattle.std.proofs.lemmas.Bool.{ltb-true, ltb-false}
 use Rattle.httpdate.specs.declared.parts.Parts.{Parts}

@@ -12,8 +12,7 @@ pub enum LogFault {
     /// The timestamp is after the year 9999.
     #[error("a moment after the year 9999")]
     BadMoment,
-    /// The log already has an entry of the session, and the recorded sequence of that entry, `stored`, is greater than
-    /// the recorded sequence of the new entry.
+    /// The log already has an entry of the session, with a greater recorded sequence (`stored`) than the new entry.
     #[error("older than the stored entry, which recorded {stored}")]
     Older { stored: u64 },
     /// A log without entries has no text.

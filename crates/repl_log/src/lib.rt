@@ -1,6 +1,6 @@
 //! Logs of replications, and the common checkpoint of two logs.
 //!
-//! docs/PROFILE.md, "Replication ids and logs", "Common checkpoint" and "Limits", specifies the logs.
+//! The rules are in docs/PROFILE.md, "Replication ids and logs", "Common checkpoint" and "Limits".
 #![tactic(auto)]
 
 mod checkpoint;

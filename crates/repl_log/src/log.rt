@@ -8,14 +8,14 @@ use std::marker::Model;
 
 /// The log of one replication, which has at most one entry of each session, newest first.
 ///
-/// The entries are stored oldest first, in a table by session id, so that a call about one session does not scan all
-/// entries.
+/// The entries are stored oldest first, in a hash table whose keys are the session ids. A call about one session
+/// therefore does not scan all entries.
 pub struct Log {
     entries: IndexMap<SessionId, Entry>,
 }
 
-// `Log` has a handwritten `drop`, because the code of `#[derive(Drop)]` would be proved again in each crate that owns a
-// `Log` (docs/DECISIONS.md, "Letting values go").
+// `Drop` is implemented by hand. The code of `#[derive(Drop)]` would be proved again in each crate that owns a `Log`
+// (docs/DECISIONS.md, "Letting values go").
 impl Drop for Log {
     fn drop(self) {
         let Log { entries: _ } = self;

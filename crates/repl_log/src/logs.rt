@@ -16,8 +16,8 @@ pub struct Logs {
     logs: IndexMap<RepId, Log>,
 }
 
-// `Logs` has a handwritten `drop`, because the code of `#[derive(Drop)]` would be proved again in each crate that owns
-// a `Logs` (docs/DECISIONS.md, "Letting values go").
+// `Drop` is implemented by hand. The code of `#[derive(Drop)]` would be proved again in each crate that owns a `Logs`
+// (docs/DECISIONS.md, "Letting values go").
 impl Drop for Logs {
     fn drop(self) {
         let Logs { logs: _ } = self;
@@ -111,7 +111,7 @@ impl Logs {
     }
 }
 
-/// Releases the unused capacity of a table that has one log, because most sources have one target.
+/// Releases the table's unused capacity if the table has exactly one log. Most sources have only one target.
 fn fit(logs: &mut IndexMap<RepId, Log>)
     ensures { logs.new.entries ≡ logs.old.entries }
 {

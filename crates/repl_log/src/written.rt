@@ -125,7 +125,7 @@ fn push_members(
     Ok(())
 }
 
-/// Appends the text `name`, which has a member's name and punctuation, and then an integer.
+/// Appends a member of a JSON object with an integer value. The text `name` has the member's name and its punctuation.
 fn push_whole(out: &mut Vec<u8>, name: &str, number: u64) -> Result<(), AllocError>
     ensures { OnOk result (out.new.items ≡ out.old.items ++ (name.now ++ decimal number)) }
 {
@@ -134,7 +134,7 @@ fn push_whole(out: &mut Vec<u8>, name: &str, number: u64) -> Result<(), AllocErr
     out.extend_from_slice(buffer.format(number).as_bytes())
 }
 
-/// Appends the text `name`, which has a member's name and punctuation, and then a string in quotation marks.
+/// Appends a member of a JSON object with a string value. The text `name` has the member's name and its punctuation.
 fn push_quoted(out: &mut Vec<u8>, name: &str, text: &str) -> Result<(), AllocError>
     ensures { OnOk result (out.new.items ≡ out.old.items ++ (name.now ++ quoted text.now)) }
 {

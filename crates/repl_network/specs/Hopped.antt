@@ -20,7 +20,7 @@ pub record Carried (refuses : Document → Bool) (source target : PeerValue) (pl
     pub later : IsLaterPeer target target'
     pub leaves : Leaves refuses source target plan source' target'
 
--- How a replication changes the network: all peers other than the source and the target are unchanged.
+-- How a replication changes the network. The replication changes no peer except its source and its target.
 pub record Hopped (peers : List PeerValue) (hop : Hop) (peers' : List PeerValue) : Type 0 where
   pub moved : IsReplicated (slice_get peers) hop.from hop.to hop.plan (slice_get peers')
   pub source_law : LawfulDatabase moved.source.db
@@ -42,8 +42,8 @@ AllHopped peers (hop ∷ hops) peers' = (mid : List PeerValue) × Ended peers ho
 abbrev pub AllLawful : List PeerValue → Type 0
 AllLawful peers = (n : ℕ) (p : PeerValue) → IsAt peers n p → LawfulDatabase p.db
 
--- The peer at index `place` is the result of applying the function `change` to the peer that was at this index before.
--- No peer of the network at another index than `place` has changed.
+-- The function `change` maps the old peer at index `place` to the new peer at this index. The peers at all other
+-- indices than `place` are unchanged.
 pub record IsChangedAt (place : ℕ) (change : PeerValue → PeerValue) (peers peers' : List PeerValue) : Type 0 where
   pub before : PeerValue
   pub at : IsAt peers place before

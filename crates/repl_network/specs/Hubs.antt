@@ -7,8 +7,8 @@ use Rattle.repl_target.specs.declared.replication.Plan.{Plan}
 use Rattle.repl_network.specs.declared.hop.Hop.{Hop}
 use Rattle.repl_network.specs.Nets.{AllAgree, AllWhole, IsRefusedNowhere, IsSameEverywhere}
 
--- A hop (replication) for each plan of a list, in order. The function `hop` gives the hop of a peer's index and a plan,
--- and n + 1 is the index for the first plan.
+-- A hop (replication) for each plan of a list, in order. The function `hop` returns the hop for a peer's index and a
+-- plan. The first plan belongs to the peer with index n + 1, and each further plan belongs to the next peer.
 abbrev pub hops_of : (ℕ → Plan → Hop) → ℕ → List Plan → List Hop
 hops_of hop n [] = []
 hops_of hop n (plan ∷ plans) = hop (n + 1) plan ∷ hops_of hop (n + 1) plans
@@ -31,7 +31,7 @@ abbrev pub AllPlansChoose : List Plan → Id → Type 0
 AllPlansChoose [] id = Unit {0}
 AllPlansChoose (plan ∷ plans) id = (is_chosen plan.chosen id ≡ true) × AllPlansChoose plans id
 
--- After synchronization by a hub, a document is the same at all peers.
+-- All peers of the network have the same document `id`, and the document's trees agree and have complete histories.
 pub record Shared (peers' : List PeerValue) (id : Id) : Type 0 where
   pub same : IsSameEverywhere peers' id
   pub agree : AllAgree peers' id

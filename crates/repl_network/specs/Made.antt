@@ -22,7 +22,7 @@ pub record EditValue : Type 0 where
 abbrev pub Makes : EditValue → RevId → Type 0
 Makes e r = edit_rev e.before e.deleted e.body ≡ Ok r
 
--- Each parent and each content in tree t comes from an edit of the given set, and the histories of t are complete.
+-- The tree t has complete histories. Each parent and each content in t comes from an edit of the given set.
 pub record IsMadeBy (among : EditValue → Bool) (t : TreeValue) : Type 0 where
   pub parents : (c p : RevId) → get t.parents c ≡ Some p
       → (e : EditValue) × (among e ≡ true) × Makes e c × (e.before ≡ Some p)

@@ -30,7 +30,7 @@ filters_of peers = map (λ p. p.0) peers
 abbrev pub IsAt : List PeerValue → ℕ → PeerValue → Type 0
 IsAt peers n p = slice_get peers n ≡ Some p
 
--- The list `backups` of a network has the backup b of the peer with index n.
+-- The backup b of the peer with index n is in the network's list `backups`.
 abbrev pub AreKept : List (ℕ × BackupValue) → ℕ → BackupValue → Type 0
 AreKept backups n b = Among (n, b) backups
 
@@ -51,7 +51,7 @@ IsHeld peers uuid = (n : ℕ) × (p : PeerValue) × IsAt peers n p × (p.db.uuid
 abbrev pub IsNet : List (ℕ × BackupValue) → List PeerValue → Type 0
 IsNet backups peers = IsNetwork (slice_get peers) (AreKept backups)
 
--- ---- the peers' trees of one document
+-- ---- one document's trees at all peers
 
 -- In the trees of all peers, a revision of the document never has two different parents or two different contents.
 abbrev pub AllAgree : List PeerValue → Id → Type 0
@@ -79,13 +79,13 @@ AllChoose [] id = Unit {0}
 AllChoose (h ∷ hops) id = (is_chosen h.plan.chosen id ≡ true) × AllChoose hops id
 
 -- A chain of hops in the list `hops` leads from the peer with index `from` to the peer with index `to`. A chain
--- consists of some hops of a list, in order. Each hop of a chain begins at the peer at which the chain's previous hop
--- ends.
+-- consists of some hops of the list, in the order of the list. The target of each hop in a chain is the source of the
+-- chain's next hop.
 abbrev pub Leads : List Hop → ℕ → ℕ → Type 0
 Leads [] from to = from ≡ to
 Leads (h ∷ hops) from to = Leads hops from to ⊎ (from ≡ h.from) × Leads hops h.to to
 
--- In a network of `count` peers, chains of hops in the list `hops` lead from every peer to every other peer.
+-- In a network of `count` peers, a chain of hops from the list `hops` leads from each peer to each other peer.
 abbrev pub LeadsEverywhere : List Hop → ℕ → Type 0
 LeadsEverywhere hops count = (m n : ℕ) → m < count → n < count → Leads hops m n
 
@@ -93,8 +93,8 @@ LeadsEverywhere hops count = (m n : ℕ) → m < count → n < count → Leads h
 
 -- How consecutive hops change a document that each hop's plan selects and no peer has refused. Before the hops, the
 -- peers of the network must be consistent, and the document's trees must agree and have complete histories. If a chain
--- of hops (replications) leads from peer m to peer n, peer n gets all revisions of document `id` that peer m had. If
--- chains of hops lead from every peer to every other peer, all peers have the same document `id` after the hops. After
+-- of hops (replications) leads from peer m to peer n, peer n gets all revisions of document `id` that peer m had. If a
+-- chain of hops leads from each peer to each other peer, all peers have the same document `id` after the hops. After
 -- the hops, the document's trees agree and have complete histories, and each revision in these trees was at some peer
 -- before the hops.
 pub record Spreads (peers : List PeerValue) (hops : List Hop) (peers' : List PeerValue) (id : Id) : Type 0 where
@@ -121,8 +121,8 @@ tree_alone d = merged no_revisions d.ancestry (content_of d.deleted d.body) (Loc
 abbrev pub FitsIn : List PeerValue → Document → Type 0
 FitsIn peers d = (n : ℕ) (p : PeerValue) → IsAt peers n p → Agree (tree_of p.db.docs d.id) (tree_alone d)
 
--- The ancestry of document d reaches generation 1, or the given database's tree of the document has the ancestry's
--- oldest revision.
+-- The ancestry of document d reaches generation 1, or its oldest revision is in the document's tree in the given
+-- database.
 abbrev pub IsRooted : DatabaseValue → Document → Type 0
 IsRooted db d =
     (r : RevId) → IsRoot (tree_alone d) r → (r.generation ≡ 1) ⊎ (has (tree_of db.docs d.id) r ≡ true)
@@ -130,8 +130,8 @@ IsRooted db d =
 abbrev pub IsRootedAt : List PeerValue → ℕ → Document → Type 0
 IsRootedAt peers place d = (p : PeerValue) → IsAt peers place p → IsRooted p.db d
 
--- No peer's tree disagrees with the edited document about a revision's parent or content. Suppose that only edits made
--- the document. If an edit then violates `EditFits`, two different edits have the same MD5.
+-- No peer's tree disagrees with the edited document about a revision's parent or content. If only edits made a
+-- document, an edit of this document can violate `EditFits` only if two different edits have the same MD5.
 abbrev pub EditFits : List PeerValue → ℕ → Id → Option RevId → Bool → List ℕ → Type 0
 EditFits peers place id parent deleted body =
     (p : PeerValue) → IsAt peers place p → (e : RevId × Option RevId) → edited p.db id parent deleted body ≡ Ok e

@@ -23,7 +23,8 @@ IsHeldBy {K = K} peers uuid = (n : K) × (p : PeerValue) × (peers n ≡ Some p)
 abbrev pub IsOther : {K : Type 0} → (K → Option PeerValue) → ℕ → ℕ → Type 0
 IsOther peers own uuid = IsHeldBy peers uuid × (uuid ≡ own → ⊥)
 
--- Each of the given logs of the peer with UUID `own` belongs to a replication into another peer.
+-- The peer with UUID `own` has the given logs. Each of the given logs belongs to a replication into another peer of the
+-- network.
 abbrev pub LeadToOthers : {K : Type 0} → (K → Option PeerValue) → ℕ → List (RepId × List EntryValue) → Type 0
 LeadToOthers peers own logs = (l : RepId × List EntryValue) → Among l logs → IsOther peers own l.0.target
 
@@ -39,17 +40,17 @@ pub record IsCopyAt {K : Type 0} (peers : K → Option PeerValue) (n : K) (b : B
   pub uuid : b.db.uuid ≡ peer.db.uuid
   pub logs : LeadToOthers peers peer.db.uuid b.outgoing
 
--- Each element of the list `backups` is a backup of the peer with key n, as the relation `copy` says.
+-- Each element of the list `backups` is a backup of the peer with key n, according to the relation `copy`.
 abbrev pub AreCopiesAt : {K : Type 0} → (K → BackupValue → Type 0) → K → List BackupValue → Type 0
 AreCopiesAt copy n backups = (b : BackupValue) → Among b backups → copy n b
 
--- For the selection `chosen`, the source p and each of its backups are consistent with the target q. The key of the
+-- The source p, with each of its backups, is consistent with the target q for the selection `chosen`. The key of the
 -- source p in the network is n.
 abbrev pub AreTiedAt : {K : Type 0} → (K → BackupValue → Type 0) → K → PeerValue → PeerValue → Choice → Type 0
 AreTiedAt copy n p q chosen = (backups : List BackupValue) → AreCopiesAt copy n backups → IsTiedWith backups p q chosen
 
--- For every selection of documents, each peer and each backup of the peer, as a source, is consistent with each other
--- peer, as a target. No two peers of the network have the same UUID.
+-- For every selection of documents, each peer as a source, with its backups, is consistent with each other peer as a
+-- target. No two peers of the network have the same UUID.
 pub record AreConsistent {K : Type 0} (peers : K → Option PeerValue) (copy : K → BackupValue → Type 0) : Type 0 where
   pub apart : (m n : K) (p q : PeerValue) → peers m ≡ Some p → peers n ≡ Some q → p.db.uuid ≡ q.db.uuid → m ≡ n
   pub tied : (m n : K) (p q : PeerValue) → peers m ≡ Some p → peers n ≡ Some q → m ≢ n → (chosen : Choice)
@@ -65,7 +66,7 @@ pub record IsNetwork {K : Type 0} (peers : K → Option PeerValue) (copy : K →
 
 -- ---- steps
 
--- The value with key m was s and is s', and the value with key n was t and is t'. No other value has changed.
+-- The value with key m was s and is now s'. The value with key n was t and is now t'. No other value has changed.
 pub record AreChanged {K X : Type 0} (old : K → Option X) (m n : K) (s t s' t' : X) (new : K → Option X) : Type 0 where
   pub from : old m ≡ Some s
   pub to : old n ≡ Some t
@@ -73,7 +74,7 @@ pub record AreChanged {K X : Type 0} (old : K → Option X) (m n : K) (s t s' t'
   pub to_then : new n ≡ Some t'
   pub others : (k : K) → k ≢ m → k ≢ n → new k ≡ old k
 
--- In a network, only the peer with the key n has changed: it was p and is p'.
+-- In a network, only the peer with the key n has changed, from p to p'.
 abbrev pub Becomes : {K : Type 0} → (K → Option PeerValue) → K → PeerValue → PeerValue → (K → Option PeerValue) → Type 0
 Becomes peers n p p' peers' = AreChanged peers n n p p p' p' peers'
 
@@ -83,8 +84,8 @@ pub record Writes (p p' : PeerValue) : Type 0 where
   pub logs : p'.outgoing ≡ p.outgoing
   pub sessions : p'.sessions ≡ p.sessions
 
--- A replication by a plan, with one or several threads, has changed two peers of a network: the source with key m and
--- the target with key n. No peer except the source and the target has changed.
+-- A replication by a plan has changed two peers of a network: the source with key m, and the target with key n. The
+-- replication had one or several threads. No peer except the source and the target has changed.
 pub record IsReplicated {K : Type 0} (peers : K → Option PeerValue) (m n : K) (plan : Plan)
     (peers' : K → Option PeerValue) : Type 0 where
   pub refuses : Document → Bool
@@ -109,8 +110,8 @@ pub record IsAdded {K : Type 0} (peers : K → Option PeerValue) (n : K) (x : Pe
   pub sessions : x.sessions ≡ []
   pub logs : x.outgoing ≡ []
 
--- A step of a network: a local write, a replication, a backup, a restore, or a new peer. `copy'` says which backups the
--- network has after the step.
+-- A step of a network: a local write, a replication, a backup, a restore, or a new peer. The relations `copy` and
+-- `copy'` say which backups the network has before and after the step.
 pub data Step {K : Type 0} (peers : K → Option PeerValue) (copy : K → BackupValue → Type 0)
     (peers' : K → Option PeerValue) (copy' : K → BackupValue → Type 0) : Type 0 where
   Written : (n : K) (p p' : PeerValue) → Becomes peers n p p' peers' → Writes p p'

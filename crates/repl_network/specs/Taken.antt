@@ -35,8 +35,8 @@ pub record IsHop {F : Type 0} (refuses : F → Document → Bool) (peers : List 
   pub open changed use *
   pub replicates : Replicates (refuses target.0) source.1 target.1 hop.plan result source_then target_then
 
--- The result of the hop (replication between two peers) with the index `at` in a list of hops, and the network after
--- the hop. A hop first checks that its source and its target exist and are different peers, and then replicates.
+-- The result of a hop (a replication between two peers), and the network after the hop. The hop is at index `at` in a
+-- list of hops. A hop first checks that its source and its target exist and are different peers, and then replicates.
 pub data TakesHop {F : Type 0} (refuses : F → Document → Bool) (at : ℕ) (peers : List (F × PeerValue)) (hop : Hop)
     : Result Report NetFault → List (F × PeerValue) → Type 0 where
   no_source : length peers ≤ hop.from → TakesHop refuses at peers hop (Err (faults.NoPeer hop.from)) peers

@@ -25,11 +25,11 @@ use std::alloc::Global;
 /// `replicate_alone` with the hop's plan.
 ///
 /// If every two peers are consistent (docs/PROFILE.md, "Nets"), they stay consistent, even if the call fails. A
-/// document is *selected* if the plan of every hop selects it, and no peer has refused it when the call returns. A
-/// successful call on consistent peers keeps the trees of a selected document in agreement and with complete histories.
-/// If chains of hops lead from every peer to every other peer, a successful call on consistent peers makes a selected
-/// document with agreeing, complete trees the same everywhere. A document that is the same at all peers has the same
-/// winner at all peers.
+/// document is *selected* if every hop's plan selects the document, and no peer has refused the document when the call
+/// returns. The following guarantees are for a successful call on consistent peers, and for a selected document whose
+/// trees agree and have complete histories. After the call, the document's trees still agree and have complete
+/// histories. If chains of hops lead from every peer to every other peer, the document is the same at all peers after
+/// the call. A document that is the same at all peers has the same winner at all peers.
 pub fn replicate_along<F: WriteFilter>(
     alloc: Global,
     peers: &mut [Peer<F>],
@@ -55,11 +55,11 @@ pub fn replicate_along<F: WriteFilter>(
 
 /// Stores a user's document at one peer of a network (`Peer::load`).
 ///
-/// If every two peers are consistent, they stay consistent, even if the call fails. `load_at` keeps each document's
-/// trees in agreement and with complete histories if the stored document agrees with each peer's tree and is complete
-/// at the storing peer. The stored document agrees with a tree if no revision has different parents or different
-/// contents in the document and in the tree. The stored document is complete at a peer if its ancestry is complete, or
-/// if the peer's tree has the ancestry's oldest revision.
+/// If every two peers are consistent, they stay consistent, even if the call fails. The call keeps the trees of every
+/// document in agreement and with complete histories under two conditions. The stored document must agree with each
+/// peer's tree, and must be complete at the storing peer. The stored document agrees with a tree if document and tree
+/// never give a revision different parents or different contents. The stored document is complete at a peer if its
+/// ancestry reaches generation 1, or if the peer's tree has the ancestry's oldest revision.
 pub fn load_at<F: WriteFilter>(
     peers: &mut [Peer<F>],
     place: usize,
@@ -87,10 +87,10 @@ pub fn load_at<F: WriteFilter>(
 
 /// Edits a document at one peer of a network (`Peer::edit`).
 ///
-/// If every two peers are consistent, they stay consistent, even if the call fails. The edit keeps the document's trees
-/// in agreement and with complete histories, unless a peer has the new revision with another parent or content. If only
-/// edits made a document, a peer has an edit's new revision with another parent or content only if two different edits
-/// have the same MD5.
+/// If every two peers are consistent, they stay consistent, even if the call fails. If no peer has the new revision
+/// with another parent or content, the edit keeps the document's trees in agreement and with complete histories. If
+/// only edits made a document, a revision can have two different parents or contents only if two different edits have
+/// the same MD5.
 pub fn edit_at<F: WriteFilter>(
     peers: &mut [Peer<F>],
     place: usize,
@@ -121,7 +121,7 @@ pub fn edit_at<F: WriteFilter>(
     }
 }
 
-/// Has no effect at run time, but gives proofs the invariant of each peer's database.
+/// Makes the invariant of each peer's database available to proofs, and has no effect at run time.
 fn hold_laws<F: WriteFilter>(peers: &[Peer<F>])
     ensures { AllLawful (peers_of peers.now) }
 {
@@ -160,7 +160,7 @@ fn take_hop<F: WriteFilter>(
     }
 }
 
-/// Replicates between the peers at two existing indices.
+/// Replicates between two different peers whose indices exist.
 fn carry<F: WriteFilter>(
     alloc: Global,
     peers: &mut [Peer<F>],

@@ -19,10 +19,11 @@ pub enum NetFault {
     /// The hop at the given index failed, and the earlier hops succeeded.
     #[error("hop {0}: {1}")]
     Hop(usize, TargetFault),
-    /// The number of plans for a direction differs from the number of peers other than the hub.
+    /// The network has no peer, or the number of plans for a direction differs from the number of peers other than the
+    /// hub.
     #[error("one plan each way is wanted for each peer behind the hub")]
     Plans,
-    /// An allocation failed. The call added no peer and replicated nothing.
+    /// An allocation failed before the call added a peer or replicated a document.
     #[error("out of memory")]
     Memory,
     /// The write of a document at a peer failed.

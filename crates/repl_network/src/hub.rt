@@ -13,17 +13,18 @@ use repl_target::{Peer, Plan, WriteFilter};
 use std::alloc::{AllocError, Global};
 
 /// Replicates all other peers of a network into the hub (the first peer), and then the hub into all other peers. One
-/// thread performs all replications, two for each peer other than the hub. For each direction, the caller gives a plan
-/// for each peer other than the hub, in order.
+/// thread performs all replications, two for each peer other than the hub. The caller gives two lists of plans, one for
+/// each direction. Each list has one plan for each peer other than the hub, in the order of the peers.
 ///
 /// If every two peers are consistent, they stay consistent, even if the call fails. A document is *selected* if all
-/// plans in both directions select it, and no peer has refused it when the call returns. A successful call on
-/// consistent peers makes a selected document with agreeing, complete trees the same at all peers. A successful call on
-/// consistent peers keeps the trees of a selected document in agreement and with complete histories.
+/// plans in both directions select the document, and no peer has refused the document when the call returns. The
+/// following guarantees are for a successful call on consistent peers, and for a selected document whose trees agree
+/// and have complete histories. After the call, the document is the same at all peers, and its trees still agree and
+/// have complete histories.
 ///
 /// # Errors
 ///
-/// - `Plans`: there is not exactly one plan in each direction for each peer other than the hub.
+/// - `Plans`: the network has no peer, or a list does not have exactly one plan for each peer other than the hub.
 /// - `Memory`: an allocation failed before the first replication.
 /// - The errors of `replicate_along`.
 pub fn sync_by_hub<F: WriteFilter>(
@@ -48,7 +49,7 @@ pub fn sync_by_hub<F: WriteFilter>(
     replicate_along(alloc, peers, &hops)
 }
 
-/// Creates the hops to and from the hub, one hop for each given plan.
+/// Creates one hop for each given plan: first the hops into the hub, and then the hops from the hub.
 fn hub_hops(alloc: Global, there: &[Plan], back: &[Plan]) -> Result<Vec<Hop>, AllocError>
     ensures { IfOk result (λ hops. hops.items ≡ gathers 0 there.now ++ spreads 0 back.now) }
 {

@@ -13,11 +13,12 @@ use rev_core::Rev;
 use std::alloc::{AllocError, Global};
 use std::marker::Model;
 
-/// A network is a list of peers. Each peer was empty when it was added, and has since then replicated documents only
-/// within the network.
+/// A network is a list of peers. Each peer is empty when it is added, and then replicates only with other peers of the
+/// network.
 ///
-/// Every two peers of a network are consistent in both directions (docs/PROFILE.md, "Nets"). The calls of a network
-/// therefore need no assumption about consistency, and an audit between two peers never finds an uncovered leaf.
+/// Every two peers of a network are consistent in both directions (docs/PROFILE.md, "Nets"). The methods of `Net`
+/// therefore need no assumption about consistency. An audit between two peers of a network never finds an uncovered
+/// leaf.
 #[derive(Drop)]
 pub struct Net<F: WriteFilter> {
     peers: Vec<Peer<F>>,
@@ -95,8 +96,8 @@ impl<F: WriteFilter> Net<F> {
         self.peers.get(place)
     }
 
-    /// Has no effect at run time, but gives proofs the invariant of the network. If a document was made only by edits,
-    /// and no two different edits have the same MD5, then all trees of that document agree and have complete histories.
+    /// Makes the invariant of the network available to proofs, and has no effect at run time. If only edits without MD5
+    /// collisions made a document, all trees of the document agree and have complete histories.
     pub fn law(&self)
         ensures net { IsNet [] (peers_of self.now) }
         ensures agree { MadeAgree (peers_of self.now) }

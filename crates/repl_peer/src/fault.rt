@@ -21,8 +21,8 @@ pub enum Reason {
     /// The write filter refuses the document.
     Filtered,
     /// The ancestry of the document contradicts the tree, because a revision of the ancestry has another parent in the
-    /// tree. The variant has the newest revision with two different parents (`child`), the revision's parent in the
-    /// tree (`known`), and the revision's parent in the ancestry (`given`).
+    /// tree. The field `child` is the newest revision with two different parents. The field `known` is the child's
+    /// parent in the tree, and `given` is the child's parent in the ancestry.
     Contradicting { child: Rev, known: Rev, given: Rev },
 }
 
@@ -53,8 +53,8 @@ pub enum TargetFault {
     /// The base of a new session is not an earlier session of the same replication.
     #[error("no such base session")]
     NoSuchBase,
-    /// The start of a new session exceeds the recorded sequence of the earlier session that the new session continues
-    /// (its base). A new session without a base must start at 0.
+    /// A new session would start above the recorded sequence of its base, the earlier session that it continues. A new
+    /// session without a base must start at 0.
     #[error("the start is above {recorded}, which its base has recorded")]
     StartAboveBase {
         recorded: u64,
@@ -65,8 +65,8 @@ pub enum TargetFault {
     /// The peer has no session with the given id.
     #[error("no such session")]
     NoSuchSession,
-    /// A window's life (a number that changes when a database is restored) is not the session's life, or a log entry's
-    /// life is not the database's life. The expected life is `now`.
+    /// The life of a window differs from the session's life, or the life of a log entry differs from the database's
+    /// life. The field `now` is the expected life.
     #[error("of another life than {now}")]
     OtherLife {
         now: u64,
@@ -88,7 +88,7 @@ pub enum TargetFault {
     /// A count of the session would exceed 9,007,199,254,740,991.
     #[error("a count of the session is full")]
     CountFull,
-    /// Only the first `settled` documents of the parcel are settled, and `rest` has the remaining documents. The
+    /// Only the parcel's first `settled` documents are settled. The field `rest` has the remaining documents. The
     /// parcel's window is not done.
     #[error("stopped after {settled} documents")]
     Stopped {
@@ -109,8 +109,7 @@ pub enum TargetFault {
     Unfinished {
         low_water: u64,
     },
-    /// The log already has an entry of this session, and the recorded sequence of that entry, `stored`, is greater than
-    /// the recorded sequence of the new entry.
+    /// The log already has an entry of this session with a greater recorded sequence, `stored`, than the new entry.
     #[error("older than the stored entry, which recorded {stored}")]
     Older {
         stored: u64,
@@ -157,7 +156,7 @@ impl From<AllocError> for Cause {
     }
 }
 
-/// Converts an error of `Database::put`, other than `Contradiction`, to the cause for which settling stopped.
+/// Converts an error of `Database::put`, other than `Contradiction`, to a `Cause`, the reason why settling stopped.
 impl From<BaseFault> for Cause {
     ghost from_gives = { λ fault cause. cause ≡ cause_by_database fault };
 
@@ -169,8 +168,8 @@ impl From<BaseFault> for Cause {
     }
 }
 
-/// Converts an error of `Front::finish` to the cause with which settling a parcel (a window's documents) stops. The
-/// window was checked before the call of `finish`.
+/// Converts an error of `Front::finish` to a `Cause`, the reason why settling a parcel stopped. The window was checked
+/// before the call of `finish`.
 impl From<FrontFault> for Cause {
     ghost from_gives = { λ fault cause. cause ≡ cause_by_front fault };
 
@@ -212,7 +211,7 @@ impl From<LogFault> for TargetFault {
     }
 }
 
-/// Converts the error of a session's front (which says which windows are done) to an error of the peer.
+/// Converts an error of a session's `Front` to an error of the peer.
 impl From<FrontFault> for TargetFault {
     ghost from_gives = { λ refused fault. fault ≡ refused_by_front refused };
 

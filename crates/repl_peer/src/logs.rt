@@ -16,9 +16,8 @@ use rev_tree::SessionId;
 use std::alloc::{AllocError, Global};
 
 /// Returns the id of the replication from one peer into another. The replication id contains the UUIDs of the source's
-/// database and of the target's database. The returned id does not copy the selection `chosen`: both refer to the same
-/// list of ids in memory. The contract of `rep_between` guarantees that the source and the target satisfy the invariant
-/// of peers.
+/// database and of the target's database. The returned id and the selection `chosen` share one list of document ids in
+/// memory. The contract of `rep_between` also states that both peers satisfy the invariant of peers.
 pub fn rep_between<F: WriteFilter, G: WriteFilter>(
     source: &Peer<F>,
     target: &Peer<G>,
@@ -31,10 +30,10 @@ pub fn rep_between<F: WriteFilter, G: WriteFilter>(
     RepId::new(source.db().uuid(), target.db().uuid(), chosen)
 }
 
-/// Returns the common checkpoint of a replication (docs/PROFILE.md, "Common checkpoint"). The common checkpoint has the
-/// newest session of the target's log that is also in the source's log. The common checkpoint's sequence is the lesser
-/// of the sequences that the source's log and the target's log have recorded for the common session. Returns `None` if
-/// the logs share no session.
+/// Returns the common checkpoint of a replication (docs/PROFILE.md, "Common checkpoint"). The checkpoint names the
+/// newest session in the target's log that the source's log also has. The checkpoint's sequence is the lesser of the
+/// two sequences that the source's log and the target's log have recorded for this session. Returns `None` if the logs
+/// share no session.
 ///
 /// The call scans the target's sessions of the replication, newest first, until it finds the common session. Does not
 /// allocate.

@@ -43,8 +43,8 @@ pub struct Peer<F: WriteFilter> {
     pub(crate) outgoing: Logs,
 }
 
-// The type `Peer` has no `#[derive(Drop)]`, because each crate that owns a `Peer` would have to prove the derived code
-// (docs/DECISIONS.md, "Letting values go").
+// `Peer` implements `Drop` by hand. With `#[derive(Drop)]`, each crate that owns a `Peer` would have to prove the
+// derived code again (docs/DECISIONS.md, "Letting values go").
 impl<F: WriteFilter + Drop> Drop for Peer<F> {
     fn drop(self) {
         let Peer {
@@ -129,9 +129,9 @@ impl<F: WriteFilter> Peer<F> {
 
     /// Returns the database.
     ///
-    /// The clauses of `db` state guarantees of every peer. If a window's row has a sequence at or below the session's
-    /// recorded sequence, each leaf of the row is covered, that is, in the tree or rightly refused. Each revision in
-    /// the database comes from a local write or from a row of a window. The number of read documents is the number of
+    /// The contract of `db` states guarantees that hold for every peer. Up to a session's recorded sequence, each leaf
+    /// in the rows of the session's windows is covered: it is in the tree or rightly refused. Each revision in the
+    /// database comes from a local write or from a row of a window. The number of read documents is the number of
     /// written documents plus the number of refused documents.
     pub fn db(&self) -> &Database
         ensures value { result.now ≡ self.now.1.db }
@@ -142,8 +142,8 @@ impl<F: WriteFilter> Peer<F> {
         &self.db
     }
 
-    /// States in its contract the invariants of the peer and of the peer's database, for use in proofs. A call of `law`
-    /// has no effect at run time.
+    /// Gives proofs the invariant of the peer and the invariant of the peer's database. A call of `law` has no effect
+    /// at run time.
     pub fn law(&self)
         ensures peer { Lawful (F.refuses self.now.0) self.now.1 }
         ensures database { LawfulDatabase self.now.1.db }
@@ -260,8 +260,8 @@ impl<F: WriteFilter> Peer<F> {
         has_in(self.db.tree(id), rev) || self.sessions.has_refused(id, rev)
     }
 
-    /// Among the leaves of a changed document, returns the first leaf that is not covered. The hint `near` makes
-    /// lookups faster if the caller passes documents in order.
+    /// Returns a changed document's first leaf that is not covered. The hint `near` makes lookups faster if the caller
+    /// passes documents in order.
     pub fn uncovered_in(
         &self,
         alloc: Global,
@@ -340,7 +340,7 @@ impl<F: WriteFilter> Peer<F> {
         ensures err { OnErr result (self.new.1 ≡ self.old.1) }
         ensures law { Lawful (F.refuses self.new.0) self.new.1 }
     {
-        // The call of `hi` is only needed for its contract, which states that the window satisfies the invariant of
+        // Only the proof needs the call of `hi`: the contract of `hi` states that the window satisfies the invariant of
         // windows.
         let _hi = ready.window().hi();
         self.sessions.append(id, ready)
@@ -348,9 +348,9 @@ impl<F: WriteFilter> Peer<F> {
 
     /// Settles a parcel of a session: applies the parcel's documents in order, then marks the parcel's window as done.
     ///
-    /// A document that the tree already had counts as written. A document that the filter refuses, or that contradicts
-    /// the tree, goes into the session's ledger. Returns the number of stored documents and the number of documents
-    /// that went into the ledger.
+    /// If the filter refuses a document, or if the document contradicts the tree, the document goes into the session's
+    /// ledger. Any other document counts as written, even if the tree already had the document. Returns the number of
+    /// written documents and the number of documents that went into the ledger.
     ///
     /// # Errors
     ///

@@ -4,8 +4,8 @@ ghost use Rattle.std.specs.Vec.{vec_len, vec_capacity};
 
 use std::alloc::AllocError;
 
-/// Reserves space for one more item in a list. For an empty list, the call reserves space for exactly one item. A
-/// nonempty list grows as a `Vec` does. An error changes nothing.
+/// Reserves space for one more item in a list. For an empty list, the call reserves space for exactly one item. For a
+/// nonempty list, the call does the same as `Vec::reserve(1)`. An error changes nothing.
 pub(crate) fn room_for_one<T>(list: &mut Vec<T>) -> Result<(), AllocError>
     ensures items { list.new.items ≡ list.old.items }
     ensures room { OnOk result (vec_len list.new < vec_capacity list.new) }

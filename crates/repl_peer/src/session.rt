@@ -35,8 +35,8 @@ use std::marker::Model;
 
 /// An incoming session.
 ///
-/// A session stores its arrivals in several lists, in order. If arrivals were prepared, the session takes over their
-/// list as one of its own lists, and does not copy the arrivals.
+/// A session stores its arrivals in several lists, in order. The session adds a list of prepared arrivals to its own
+/// lists without copying the arrivals.
 #[derive(Drop)]
 pub(crate) struct Session {
     pub(crate) id: SessionId,

@@ -36,17 +36,17 @@ pub struct SyncRan<F: WriteFilter> {
     pub outcome: Result<Synced, SyncFault>,
 }
 
-/// Replicates in both directions with a pool of threads. The first `run` replicates `a` into `b` with the plan `there`.
-/// If the first `run` succeeds, a second `run` replicates `b` into `a` with the plan `back`. In both directions,
-/// workers call the same `Gate`.
+/// Replicates in both directions with a pool of threads. The first run replicates peer `a` into peer `b`, and uses the
+/// plan `there`. If the first run succeeds, a second run replicates `b` into `a`, and uses the plan `back`. In both
+/// directions, workers call the same `Gate`.
 ///
 /// A successful call has all guarantees of `sync_alone`. A document is shared if both plans of `sync` select the
-/// document, and neither peer has ever rejected it. If the peers were consistent in both directions (docs/PROFILE.md,
-/// "Tied peers"), a successful `sync` gives each peer the other peer's leaves of each shared document. If consistent
-/// peers have agreeing trees with complete histories of a shared document before a successful `sync`, both peers have
-/// the same document afterwards. If the peers are consistent in both directions, they stay consistent for every result
-/// of the call. `a` stays consistent with third peers whose UUID differs from `b`'s UUID, and `b` stays consistent with
-/// third peers whose UUID differs from `a`'s UUID.
+/// document, and neither peer has ever rejected it. After a successful `sync` of peers that were consistent in both
+/// directions (docs/PROFILE.md, "Tied peers"), each peer has all leaves of each shared document. If the revision trees
+/// of a shared document also agreed and had complete histories, both peers have the same document after the `sync`. If
+/// the peers are consistent in both directions, they stay consistent, even if the call fails. Peer `a` stays consistent
+/// with each third peer that does not have the UUID of `b`. Peer `b` stays consistent with each third peer that does
+/// not have the UUID of `a`.
 ///
 /// The call of `sync` blocks until the replications end. The contract of `sync` does not guarantee that the
 /// replications end.

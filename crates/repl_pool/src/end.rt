@@ -24,7 +24,7 @@ fn record<F: WriteFilter>(target: &mut Peer<F>, plan: &Plan) -> PoolFault
     }
 }
 
-/// Concludes the session at the target if `fault` is `None` (no step failed or was stopped), and all sent parcels were
+/// Concludes the session at the target if no step failed or was stopped (`fault` is `None`) and all sent parcels were
 /// received (`complete`). If the session is not concluded, the call records the session's low water.
 fn close_target<F: WriteFilter>(
     target: &mut Peer<F>,
@@ -55,8 +55,8 @@ fn close_target<F: WriteFilter>(
 /// Reads the log entry of the run's session at the target, and stores the entry in the source's log. If the source's
 /// log has a newer entry of the session, the call stores nothing.
 ///
-/// The call returns the given outcome of the run. If the outcome is `Ok` and the allocation for the entry fails, the
-/// call returns `Memory`.
+/// The call returns the given outcome of the run. If the allocation for the entry fails, the call returns `Memory`
+/// instead of `Ok`.
 fn put_entry<F: WriteFilter>(
     source: &mut Peer<F>,
     target: &Peer<F>,

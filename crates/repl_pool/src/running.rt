@@ -34,7 +34,7 @@ pub struct Ran<F: WriteFilter> {
     pub source: Peer<F>,
     /// The target.
     pub target: Peer<F>,
-    /// The number of documents that each fetcher counted, or an empty list if the run started no fetcher.
+    /// The number of documents that each fetcher counted. The list is empty if the run started no fetcher.
     pub fetched: Vec<u64>,
     /// The board seats (access tokens for the progress board) that the caller gave to the writers, in the given order.
     /// The list of seats is empty after a call of `run`, because a caller of `run` passes no progress board and no
@@ -55,7 +55,7 @@ pub struct Progress<'a> {
 }
 
 /// A run whose session has begun at the target. The record has both peers, the session's start, and the number of
-/// fetchers, which is also the number of writers.
+/// fetchers. The number of writers equals the number of fetchers.
 #[derive(Drop)]
 struct Begun<F: WriteFilter> {
     source: Peer<F>,
@@ -66,7 +66,7 @@ struct Begun<F: WriteFilter> {
 
 /// Returns the number of fetchers of a run, which is also the number of writers. The number of fetchers is the smaller
 /// of the plan's number of workers and the maximum number of windows that the run can read. If the run has no window to
-/// read, and so starts no worker, the call returns 1.
+/// read, it starts no worker, and the call returns 1.
 fn crew_of(plan: &Plan, start: u64, goal: u64) -> u64
     requires workers { 0 < plan.now.workers }
     requires batch { is_batch plan.now.batch ≡ true }
@@ -279,36 +279,36 @@ fn run_with<F: WriteFilter + Send + Sync, G: Gate + Sync, R: Threads + Wait + Sy
 
 /// Replicates the source's documents into the target with a pool of threads. The caller's thread begins the session at
 /// the common checkpoint of the two logs, and reads the source's feed in windows. The caller's thread stores each
-/// window at the target, and sends the window to a fetcher. A run has `plan.workers` fetchers, or fewer if the maximum
-/// number of the run's windows is smaller, and one writer for each fetcher. A fetcher asks the target which leaves are
-/// missing, counts the requested documents at the source, and sends the request to a writer. A writer reads the
-/// requested parcel, settles the parcel, and records the session. A lock protects the target, and the workers share the
-/// source read-only. Workers call the `Gate`, a callback, at each stage of a window, and hold no lock during the call.
-/// If the `Gate` never blocks a worker (`may_block`), workers need no separate threads, and each fetcher shares a
-/// thread with a writer.
+/// window at the target, and sends the window to a fetcher. The number of fetchers is `plan.workers`, or the maximum
+/// number of the run's windows if this number is smaller. A run has one writer for each fetcher. A fetcher asks the
+/// target which leaves are missing, counts the requested documents at the source, and sends the request to a writer. A
+/// writer reads the requested parcel, settles the parcel, and records the session. A lock protects the target, and the
+/// workers share the source read-only. Workers call the `Gate`, a callback, at each stage of a window, and hold no lock
+/// during the call. If the `Gate` never blocks a worker (`may_block` returns `false`), each fetcher shares a thread
+/// with a writer.
 ///
 /// After all workers have ended, the caller's thread concludes the session. If the session cannot be concluded, the
 /// caller's thread records the session's low water. Last, the caller's thread stores the session's entry in the
 /// source's log, unless the log has a newer entry of the session. The call does not scan the feed again, because each
 /// leaf was checked when its window was marked as done. The proof shows that the target covers every leaf above the
-/// session's start if the session is concluded. The call therefore never returns the error `Hole`, which names an
+/// session's start if the session is concluded. The call therefore never returns the error `Hole`, which would name an
 /// uncovered leaf.
 ///
 /// If the run succeeds, the target covers each leaf of the source's selected feed above the session's start. A
 /// successful call returns the report of the session, which began at the common checkpoint and has recorded the
-/// source's update sequence. The numbers of documents that the fetchers counted add up to the report's number of
-/// documents read. If a run starts with an empty target and succeeds without refusing a document, the target has all
-/// revisions, parents and leaf contents of the source's selected documents. If the run succeeds and the peers were
-/// consistent (docs/PROFILE.md, "Tied peers"), the target covers each leaf of the source's selected feed, even below
-/// the session's start.
+/// source's update sequence. The sum of the fetchers' counts of documents is the report's number of documents read.
+/// Suppose that a run starts with an empty target, succeeds, and refuses no document. The target then has all
+/// revisions, parents and leaf contents of the source's selected documents. After a successful run between consistent
+/// peers (docs/PROFILE.md, "Tied peers"), the target covers each leaf of the source's selected feed, even below the
+/// session's start.
 ///
-/// At the source, the run changes only the outgoing logs, for every result. The target is unchanged, or has changed
-/// only by beginning the session and by calls with messages of the source. The target keeps all its documents, sessions
-/// and logs. If the peers were consistent, they stay consistent. The run keeps third peers consistent with the source
-/// and the target, under two conditions on the third peers' UUIDs (`KeepsOthersTied`). A third peer that is another
-/// source of the target must not have the source's UUID. A third peer that is another target of the source must not
-/// have the target's UUID. If the peers were consistent (docs/PROFILE.md, "Tied peers"), an audit after the run finds
-/// no uncovered leaf. An uncovered leaf is neither in the document's tree at the target nor in the ledger of a session.
+/// At the source, the run changes only the outgoing logs, even if the run fails. Only the start of the session and
+/// calls for this session change the target. All windows and parcels that the run passes to the target come from the
+/// source. The target keeps all its documents, sessions and logs. If the peers were consistent, they stay consistent.
+/// Third peers stay consistent with the source and the target, under two conditions (`KeepsOthersTied`). Another source
+/// of the target must not have the UUID of the run's source. Another target of the source must not have the UUID of the
+/// run's target. If the peers were consistent (docs/PROFILE.md, "Tied peers"), an audit after the run finds no
+/// uncovered leaf. An uncovered leaf is neither in the document's tree at the target nor in the ledger of a session.
 ///
 /// The call blocks until the run ends. The contract does not guarantee that a run ends.
 ///
@@ -320,9 +320,9 @@ fn run_with<F: WriteFilter + Send + Sync, G: Gate + Sync, R: Threads + Wait + Sy
 /// - `CountFull`: a fetcher's count of documents would exceed 9,007,199,254,740,991.
 /// - `Memory`: an allocation failed, or a thread cannot be created.
 ///
-/// After an error of `check_run`, both peers are unchanged. If the plan's `stop_after` ended the run below the source's
-/// update sequence, and no worker failed or stopped, the run returns `Refused(Unfinished)`. If several workers failed
-/// or were stopped, the run returns the error of one of these workers.
+/// After an error of `check_run`, both peers are unchanged. The run returns `Refused(Unfinished)` if no worker failed
+/// or was stopped, but `stop_after` ended the run below the source's update sequence. If several workers failed or were
+/// stopped, the run returns the error of one of these workers.
 pub fn run<F: WriteFilter + Send + Sync, G: Gate + Sync, R: Threads + Wait + Sync>(
     rt: &R,
     alloc: Global,
@@ -349,13 +349,14 @@ pub fn run<F: WriteFilter + Send + Sync, G: Gate + Sync, R: Threads + Wait + Syn
 /// board. After updating its settled counter, a writer calls the `Gate` at the stage `Settled`. Updating and reading
 /// the board takes no lock.
 ///
-/// The caller must give one seat for each worker of the plan. For every outcome, the call returns the seats in order,
-/// and no counter of a seat has decreased. If the run succeeds, the seats' read counters and settled counters have each
-/// risen, in total, by the report's number of documents read.
+/// The caller must give one seat for each worker of the plan. The call always returns the seats in order. No counter of
+/// a seat has decreased, even if the run failed. If the run succeeds, the sum of the seats' read counters has risen by
+/// the report's number of documents read. The sum of the seats' settled counters has also risen by the number of
+/// documents read.
 ///
 /// In addition to the errors of `run`, the call returns `BoardFull` if a writer's read counter would exceed
-/// 9,007,199,254,740,991. A writer does not settle a parcel whose documents would make its read counter exceed
-/// 9,007,199,254,740,991.
+/// 9,007,199,254,740,991. The writer does not settle a parcel if the parcel's documents would make the read counter
+/// exceed 9,007,199,254,740,991.
 pub fn run_on<F: WriteFilter + Send + Sync, G: Gate + Sync, R: Threads + Wait + Sync>(
     rt: &R,
     alloc: Global,

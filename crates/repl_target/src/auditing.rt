@@ -14,8 +14,8 @@ use doc_json::{Chosen, is_chosen};
 use repl_peer::{Peer, WriteFilter, checkpoint, rep_between};
 use std::alloc::{AllocError, Global};
 
-/// Checks whether the target covers each leaf of the source's selected feed that is at or below the common checkpoint
-/// of the selected documents.
+/// Checks whether the target covers each leaf of the source's selected feed up to the common checkpoint. The common
+/// checkpoint is the checkpoint of the replication that selects `chosen`.
 ///
 /// The result is `Clean` if the two peers are consistent (docs/PROFILE.md, "Tied peers"). The call reads the source's
 /// feed without copying it.
@@ -64,8 +64,8 @@ pub fn hole_above<F: WriteFilter, G: WriteFilter>(
     )
 }
 
-/// Searches the source's selected feed, above sequence `above` and at or below sequence `upto`, for a leaf that the
-/// target does not cover. Returns the first uncovered leaf, or `Clean` if every leaf is covered.
+/// Searches the source's selected feed for a leaf that the target does not cover. The search includes only sequences
+/// above `above` and at most `upto`. Returns the first uncovered leaf, or `Clean` if every leaf is covered.
 ///
 /// The call reads the source's feed without copying it.
 pub fn hole_within<F: WriteFilter, G: WriteFilter>(
@@ -90,8 +90,8 @@ pub fn hole_within<F: WriteFilter, G: WriteFilter>(
     Ok(Audit::Clean)
 }
 
-/// Among the leaves of a changed document, returns the first leaf that the target does not cover. If all leaves of the
-/// document are covered, or the document is not selected, the call returns `Clean`.
+/// Returns a changed document's first leaf that the target does not cover. If all leaves of the document are covered,
+/// or the document is not selected, the call returns `Clean`.
 fn hole_in<G: WriteFilter>(
     alloc: Global,
     target: &Peer<G>,

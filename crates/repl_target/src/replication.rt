@@ -45,7 +45,7 @@ pub struct Plan {
 }
 
 impl Plan {
-    /// Copies the plan. The copy of a plan and the plan share the selection.
+    /// Copies the plan. The copy and the original plan share the selection.
     pub fn copy(&self) -> Result<Plan, AllocError>
         ensures copied { IfOk result (λ plan. plan ≡ self.now) }
     {
@@ -70,18 +70,16 @@ impl Plan {
 /// source's log.
 ///
 /// If the call succeeds, the target covers each leaf of the source's selected feed above the start, and the report is
-/// the session's report. After a successful call that started with an empty target and refused no document, the target
-/// has the source's revisions, parents and contents of leaves of each selected document. The source's database never
-/// changes.
+/// the session's report. A successful call into an empty target, without refused documents, gives each selected
+/// document the same revisions, parents and leaf contents at both peers. The source's database never changes.
 ///
 /// If the source and the target are consistent (docs/PROFILE.md, "Tied peers"), they stay consistent for every
 /// selection, even if the replication fails. After a replication between consistent peers, an audit finds no uncovered
 /// leaf. An uncovered leaf is neither in the document's tree at the target nor in the ledger of a session. If the peers
 /// are consistent and the call succeeds, each leaf of the source's complete selected feed is covered, including leaves
 /// below the start. A third peer that was consistent with the source or the target stays consistent with that peer,
-/// with two exceptions (`KeepsOthersTied`). The guarantee for third peers excludes another source of the target that
-/// has the source's UUID. The guarantee for third peers also excludes another target of the source that has the
-/// target's UUID.
+/// with two exceptions (`KeepsOthersTied`). The first exception is a second source of the target, if both sources have
+/// the same UUID. The second exception is a second target of the source, if both targets have the same UUID.
 ///
 /// # Errors
 ///
@@ -93,7 +91,8 @@ impl Plan {
 /// - `Unfinished`: the plan's `stop_after` windows were read, and they end below the goal. When the call returns
 ///   `Unfinished`, both peers have recorded the session.
 ///
-/// If the source's log has a newer entry of the session, the call stores no entry and returns no error.
+/// If the source's log already has a newer entry of the session, the call does not store its own entry. This is not an
+/// error.
 pub fn replicate_alone<F: WriteFilter, G: WriteFilter>(
     alloc: Global,
     source: &mut Peer<F>,
@@ -187,9 +186,9 @@ pub fn check_plan(source: u128, target: u128, plan: &Plan) -> Result<(), TargetF
     Ok(())
 }
 
-/// Begins the session of a plan, and returns the session's start. The session starts at the common checkpoint of the
-/// source's log and the target's log, and continues the checkpoint's session. If the logs of the source and the target
-/// have no common checkpoint, the session starts at 0. The goal of the session is the source's update sequence.
+/// Begins the session of a plan, and returns the session's start. The new session continues the session of the common
+/// checkpoint of both logs, and starts at the checkpoint's sequence. If the logs of the source and the target have no
+/// common checkpoint, the session starts at 0. The goal of the session is the source's update sequence.
 ///
 /// If the call fails, it returns `Memory`, or an error of `Peer::begin`. An error changes nothing.
 pub fn begin_plan<F: WriteFilter, G: WriteFilter>(
@@ -256,7 +255,7 @@ fn read_windows<F: WriteFilter, G: WriteFilter>(
     Ok(())
 }
 
-/// Whether a plan allows one more window after a given number of windows was read.
+/// Whether a plan allows another window after `windows` windows were read.
 pub fn has_left(stop_after: Option<u64>, windows: u64) -> bool
     ensures { result ≡ has_left stop_after windows }
 {

@@ -29,10 +29,11 @@ pub record IsWorld (refuses : Document → Bool) (w : WorldValue) : Type 0 where
 
 -- ---- tied worlds
 
--- The messages in transit include a window at index `place`. The window and the source's database each have a life (a
--- number that each restore of the source raises). If the window at index `place` and the source's database have the
--- same life, `OwnAsked` states that the request `a` is consistent with the window. If the window at index `place` and
--- the source's database have the same life, `OwnParcel` states that the parcel `p` is consistent with the window.
+-- The messages in transit include a window at index `place`. The source's database has a life, a number that each
+-- restore raises. A window records the life of the source's database. If the window at index `place` has the current
+-- life of the source's database, `OwnAsked` states that the request `a` is consistent with the window. If the window at
+-- index `place` has the current life of the source's database, `OwnParcel` states that the parcel `p` is consistent
+-- with the window.
 pub record OwnAsked (w : WorldValue) (place : ℕ) (a : AskedValue) : Type 0 where
   pub window : WindowValue
   pub own : slice_get w.bag.windows place ≡ Some window
@@ -63,17 +64,17 @@ pub record Tied (w : WorldValue) : Type 0 where
   pub entries : (e : EntryValue) → Among e w.bag.entries → IsSentEntry w.target e
 
 -- The target has no session of the replication from the source for the selection `chosen`, and the source has no log
--- entry of this replication. The source and the target may have sessions and log entries of replications that select
--- other documents than `chosen`.
+-- entry of this replication. The source and the target may have sessions and log entries of replications with other
+-- selections.
 pub record HoldNone (source target : PeerValue) (chosen : Choice) : Type 0 where
   pub sessions : (s : SessionValue) → Among s target.sessions → s.rep ≡ rep_between source target chosen → ⊥
   pub log : source_log source (rep_between source target chosen) ≡ []
 
 -- ---- guarantees of tied worlds
 
--- Settling a parcel in transit never returns `Uncovered` if two conditions hold: the session has the parcel's window,
--- and this window's life is the source's current life. A window has the source's current life if the source's database
--- was not restored after it produced the window, because each restore raises the life.
+-- Settling a parcel in transit never returns `Uncovered` if the session has the parcel's window, and this window has
+-- the source's current life. Each restore raises the life of the source's database. A window has the source's current
+-- life if the source's database has not been restored since it produced the window.
 abbrev pub NeverUncovered : (Document → Bool) → WorldValue → Type 0
 NeverUncovered refuses w =
     (p : ℕ × ParcelValue) → Among p w.bag.parcels
@@ -83,9 +84,9 @@ NeverUncovered refuses w =
     → is_uncovered result ≡ false
 
 -- What is guaranteed if the peers, the messages between them and the source's backups are consistent (`Tied`). If the
--- peers are consistent, the target covers the source's feed up to the common checkpoint, and also up to each sequence
--- that both peers' logs claim. An audit of consistent peers finds no uncovered leaf. The clause `covered` says when
--- settling a parcel never returns `Uncovered`.
+-- peers are consistent, the target covers the source's feed up to the common checkpoint. If the peers are consistent,
+-- the target also covers the source's feed up to each sequence that the logs of both peers claim. An audit of
+-- consistent peers finds no uncovered leaf. The clause `covered` says when settling a parcel never returns `Uncovered`.
 pub record IsTrustworthy (refuses : Document → Bool) (w : WorldValue) : Type 0 where
   pub tied : Tied w
   pub honest : LogsAreHonest w.source w.target w.chosen

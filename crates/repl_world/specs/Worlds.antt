@@ -88,9 +88,9 @@ abbrev pub settles : (Document → Bool) → WorldValue → SessionId → Option
 settles refuses w session None = w
 settles refuses w session (Some p) = record w { target = after_settle refuses w.target session p.1 }
 
--- The effect of a `Settle` step that settles at most n documents of a parcel, and then runs out of memory. The settled
--- documents are the first documents of the parcel. A failed `Settle` step settles the lesser of two numbers of
--- documents: n, and the number that the step would settle with enough memory.
+-- The effect of a `Settle` step that runs out of memory after it has settled at most n documents of a parcel. The
+-- settled documents are the first documents of the parcel. A failed `Settle` step settles n documents, or fewer if the
+-- step would settle fewer with enough memory.
 abbrev pub stops : (Document → Bool) → WorldValue → SessionId → ℕ → Option (ℕ × ParcelValue) → WorldValue
 stops refuses w session n None = w
 stops refuses w session n (Some p) = record w { target = after_some refuses w.target session p.1 n }
@@ -134,8 +134,8 @@ abbrev pub agreed : WorldValue → List EntryValue → Option (SessionId × ℕ)
 agreed w log = common log (target_log w.target (rep_of w))
 
 -- The parameters of a new session of the target. A new session begins at the common checkpoint of the target's log and
--- of the source's log `log`, which is a message in transit. The new session gets its life (the incarnation of the
--- source's database) from the message `log`.
+-- the source's log. The source's log is the message `log`, which is in transit. The new session gets its life (the
+-- incarnation of the source's database) from the message `log`.
 abbrev pub beginning_in : WorldValue → ℕ → ℕ × List EntryValue → Beginning
 beginning_in w goal log = record {
   scope = record { rep = rep_of w; life = log.0; base = base_at (agreed w log.1); goal = goal };
@@ -146,7 +146,8 @@ abbrev pub begins : WorldValue → SessionId → ℕ → ℕ → Option (ℕ × 
 begins w session goal at None = w
 begins w session goal at (Some log) = record w { target = after_begin w.target session (beginning_in w goal log) at }
 
--- The effect of a `Backup` step, which adds a backup of the source to the backups, unless making the backup fails.
+-- The effect of a `Backup` step. If the source can make the backup, the step adds the backup to the list of backups. If
+-- the backup fails, the step changes nothing.
 abbrev pub backs_up : WorldValue → Result BackupValue TargetFault → WorldValue
 backs_up w (Ok b) = record w { backups = w.backups ++ b ∷ [] }
 backs_up w (Err fault) = w
@@ -181,15 +182,15 @@ run refuses w (step ∷ steps) = run refuses (happens refuses w step) steps
 
 -- ---- failed allocations
 
--- A `Settle` step that fails because an allocation fails leads to the state `now`. The failed `Settle` step either has
--- no effect, or has settled the parcel's first n documents, for a number n.
+-- If an allocation fails in a `Settle` step, the state after the step is `now`. The failed `Settle` step either has no
+-- effect, or has settled the parcel's first n documents, for a number n.
 abbrev pub IsStopped : (Document → Bool) → WorldValue → SessionId → Option (ℕ × ParcelValue) → WorldValue → Type 0
 IsStopped refuses w session parcel now =
     (now ≡ w)
     ⊎ (n : ℕ) × IfSome parcel (λ (p : ℕ × ParcelValue). n ≤ most_settled refuses w.target session p.1)
     × (now ≡ stops refuses w session n parcel)
 
--- A step that fails because an allocation fails leads to the state `now`. If an allocation fails in a step other than
+-- If an allocation fails in a step, the state after the step is `now`. If an allocation fails in a step other than
 -- `Settle`, the step has no effect.
 abbrev pub CutShort : (Document → Bool) → WorldValue → Step → WorldValue → Type 0
 CutShort refuses w (Settle session parcel) now = IsStopped refuses w session (slice_get w.bag.parcels parcel) now

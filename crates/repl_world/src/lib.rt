@@ -1,7 +1,7 @@
 //! Theorems about two peers and the messages between them, for every order of steps.
 //!
-//! docs/PROFILE.md, "Worlds" and "Tied windows and messages", defines the steps, and when peers and messages are
-//! consistent.
+//! The steps and the consistency of peers and messages are defined in docs/PROFILE.md, "Worlds" and "Tied windows and
+//! messages".
 #![tactic(auto)]
 
 mod bag;

@@ -121,8 +121,8 @@ impl<F: WriteFilter> World<F> {
         self.bag.sizes()
     }
 
-    /// States the invariant of the `World` in the contract of `law`, so that proofs can use the invariant. The call has
-    /// no effect at run time.
+    /// Makes the invariant of the `World` available to proofs, in the contract of `law`. The call has no effect at run
+    /// time.
     fn law(&self)
         ensures { IsWorld (F.refuses self.now.0.1) self.now.1 }
     {
@@ -133,12 +133,13 @@ impl<F: WriteFilter> World<F> {
 
     /// Takes steps in order.
     ///
-    /// If a peer's call fails in a step, the step has the effects of the failed call. If no message or backup has the
-    /// index that a step names, the step changes nothing. If an allocation fails, the failed step changes nothing,
-    /// except that a step that settles a parcel may have settled documents of the parcel (`Stopped`).
+    /// If a call on a peer fails in a step, the step has the effects of this failed call. If no message or backup has
+    /// the index that a step names, the step changes nothing. If an allocation fails in a step that settles a parcel,
+    /// the step may already have settled documents of the parcel (`Stopped`). In any other step, a failed allocation
+    /// changes nothing.
     ///
-    /// If the `World` is consistent (docs/PROFILE.md, "Worlds") before the steps, it is consistent after the steps. The
-    /// target of a consistent `World` covers the source's current feed up to each sequence that the logs of both peers
+    /// If the `World` is consistent (docs/PROFILE.md, "Worlds") before the steps, it is consistent after the steps. In
+    /// a consistent `World`, the target covers the source's current feed up to each sequence that both peers' logs
     /// claim.
     pub fn run(&mut self, alloc: Global, steps: &[Step]) -> Result<(), AllocError>
         ensures filters { self.new.0 ≡ self.old.0 }
@@ -294,8 +295,8 @@ impl<F: WriteFilter> World<F> {
         self.bag.put_log(life, log)
     }
 
-    /// Begins a session at the target, at the common checkpoint of the target's log and a log of the source from the
-    /// messages in transit.
+    /// Begins a session at the target. The session starts at the common checkpoint of two logs: the target's log, and a
+    /// log of the source in transit.
     fn begin(
         &mut self,
         alloc: Global,
@@ -385,8 +386,8 @@ impl<F: WriteFilter> World<F> {
         self.bag.put_parcel(window, parcel)
     }
 
-    /// Settles a parcel from the messages in transit for a session of the target, that is, applies the documents of the
-    /// parcel in order.
+    /// Settles one of the parcels in transit, in a session of the target. Settling stores or rejects the documents of
+    /// the parcel, in order.
     fn settle(&mut self, alloc: Global, session: SessionId, place: usize) -> Result<(), AllocError>
         ensures filters { self.new.0 ≡ self.old.0 }
         ensures ok { OnOk result
@@ -462,7 +463,7 @@ impl<F: WriteFilter> World<F> {
     }
 }
 
-/// Returns an error exactly if the database's error is `Memory`, because only a failed allocation ends a run of steps.
+/// Returns an error if and only if the database's error is `Memory`. Only a failed allocation ends a run of steps.
 fn passed(fault: BaseFault) -> Result<(), AllocError>
     ensures ok { OnOk result (fault ≡ base_faults.Memory → ⊥) }
     ensures err { OnErr result (fault ≡ base_faults.Memory) }

@@ -52,8 +52,8 @@ before_rev Diffs = codes ":["
 before_rev Docs = codes ",\"rev\":"
 before_rev Bodies = codes ",\"rev\":"
 
--- Whether a request body in the output format groups all revisions of a document in one list. If request bodies have
--- lists of a document's revisions, the formatter closes a full body only before the next document, never within a list.
+-- Whether a request body in the output format groups all revisions of a document in one list. If a format has these
+-- lists, the formatter closes a full request body only before the next document, never within a list.
 abbrev pub has_lists : Form → Bool
 has_lists Loads = false
 has_lists Asked = false

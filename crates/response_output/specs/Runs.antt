@@ -22,13 +22,13 @@ use Rattle.response_output.specs.declared.run.AnswerFault.TheVariants.{Refused, 
 -- ---- begun items
 
 -- The text `part` is the beginning of the next item in the output. If `part` is not empty, the parser is in a long
--- document, and `part` ends with the text that was written for the document's beginning.
+-- document, and `part` ends with the output for the document's beginning.
 abbrev pub IsBegun : State → Words → List ℕ → Type 0
 IsBegun s w part = (part ≡ []) ⊎ ((written : List ℕ) × HasWritten s written × (part ≡ before w ++ written))
 
--- The given bytes were read, the items in these bytes were written, and then the beginning `part` of the next item was
--- written. The writer had accepted the bytes `held` before the given bytes were processed, and had accepted the bytes
--- `held'` afterwards.
+-- The parser has read the given bytes. The output for the given bytes consists of the items in these bytes, followed by
+-- the text `part`, the beginning of the next item. The writer has accepted the bytes `held` before the given bytes are
+-- processed, and the bytes `held'` afterwards.
 pub record Fed (s : State) (w : Words) (bytes : List ℕ) (s' : State) (w' : Words) (part : List ℕ) (held held' : Option (List ℕ)) : Type 0 where
   pub state : s' ≡ after s bytes
   pub words : w' ≡ words_behind w (pieces s bytes)
@@ -43,16 +43,16 @@ IsWhole Write missing = ⊤
 IsWhole Memory missing = missing ≡ []
 IsWhole Cut missing = ⊥
 
--- The text `made` was not written completely: a write failed within the text, or an error occurred before the first
--- byte of `made` was written.
+-- The text `made` was not written completely. Either a write failed within this text, or an error occurred before its
+-- first byte was written.
 pub data WritesInPart (fault : ScriptFault) (made : List ℕ) (held held' : Option (List ℕ)) : Type 0 where
   in_part : (text missing : List ℕ) → made ≡ text ++ missing → Appends held held' text → fault ≡ Write → WritesInPart fault made held held'
   nothing : Appends held held' [] → IsWhole fault [] → WritesInPart fault made held held'
 
--- An error occurred at the end of a document, after the text `front` had been written for the beginning of the
--- document. The error is `LateMember` if the document's complete text does not begin with `front`. If the document's
--- complete text begins with `front`, the error is `Device`: the reader, the writer or an allocation failed. After the
--- error `Device`, the rest of the text was not written completely. The parser has the state s at the document's end.
+-- An error occurred at the end of a document. The text `front` was already written for the document's beginning. The
+-- error is `LateMember` if the document's complete text does not begin with `front`. If the document's complete text
+-- begins with `front`, the error is `Device`: the reader, the writer or an allocation failed. After the error `Device`,
+-- the rest of the text was not written completely. The parser has the state s at the document's end.
 abbrev pub RestBreaks : AnswerFault → State → Words → List ℕ → Option (List ℕ) → Option (List ℕ) → Type 0
 RestBreaks (Refused why at) s w front held held' = ⊥
 RestBreaks (LateMember at) s w front held held' =
@@ -60,11 +60,11 @@ RestBreaks (LateMember at) s w front held held' =
 RestBreaks (Device fault) s w front held held' =
     (starts_with nat_eq s.text front ≡ true) × WritesInPart fault (rest_text w s.text (length front)) held held'
 
--- The reader, the writer or an allocation failed after the parser had read `before`, a prefix of the list `bytes`. The
--- output for the prefix `before` is the output of all complete items in this prefix, followed by the text `last`. The
--- text `last` is the beginning of the next item's output. The texts `part`, `text` and `missing`, in this order, are
--- the complete output for the prefix `before`. The text `part` was written before the parser read `bytes`, `text` was
--- written later, and `missing` was not written. If no write failed, the text `missing` is empty.
+-- A read, a write or an allocation failed after the parser had read `before`, a prefix of the list `bytes`. The output
+-- for the prefix `before` consists of all complete items in this prefix, followed by the text `last`. The text `last`
+-- is the beginning of the next item's output. The complete output for the prefix `before` is the text `part`, then the
+-- text `text`, then the text `missing`. The text `part` was written before the parser read `bytes`. The text `text` was
+-- written later. The text `missing` was not written. If no write failed, the text `missing` is empty.
 pub record Begins (fault : ScriptFault) (s : State) (w : Words) (part bytes : List ℕ) (held held' : Option (List ℕ)) : Type 0 where
   pub before : List ℕ
   pub behind : List ℕ
@@ -77,11 +77,10 @@ pub record Begins (fault : ScriptFault) (s : State) (w : Words) (part bytes : Li
   pub written : Appends held held' text
   pub complete : IsWhole fault missing
 
--- The list `bytes` begins with the list `front`, followed by the byte `last` that ends a long document. The text
--- `begun` was written for the beginning of a long document, although the document's complete text does not begin with
--- `begun` (`IsLate`). The items in `front` were written, and the text `begun` was written after the items. The text
--- `part` was written before the parser read `bytes`. The number `at` counts the bytes that the parser has read up to
--- the end of the long document, including its last byte.
+-- The list `bytes` begins with the list `front` and then the byte `last`, which ends a long document. The text `begun`
+-- was written for the beginning of a long document, but the document's complete text begins differently (`IsLate`). All
+-- items in `front` were written, followed by the text `begun`. The text `part` was written before the parser read
+-- `bytes`. The parser has read `at` bytes up to the end of the long document, including the document's last byte.
 pub record IsLateAt (at : ℕ) (s : State) (w : Words) (part bytes : List ℕ) (held held' : Option (List ℕ)) : Type 0 where
   pub front : List ℕ
   pub last : ℕ
@@ -94,7 +93,7 @@ pub record IsLateAt (at : ℕ) (s : State) (w : Words) (part bytes : List ℕ) (
   pub written : Appends held held' text
   pub at_is : at ≡ (after s (front ++ last ∷ [])).taken
 
--- The output of a conversion, if an error stops the conversion while it reads the bytes `bytes` of a response.
+-- The output of a conversion that fails while it reads the bytes `bytes` of a response.
 abbrev pub Breaks : AnswerFault → State → Words → List ℕ → List ℕ → Option (List ℕ) → Option (List ℕ) → Type 0
 Breaks (Refused why at) s w part bytes held held' = ⊥
 Breaks (LateMember at) s w part bytes held held' = IsLateAt at s w part bytes held held'
@@ -102,20 +101,20 @@ Breaks (Device fault) s w part bytes held held' = Begins fault s w part bytes he
 
 -- ---- the stored parser
 
--- The program's parser has the state r, and a parser that stores each byte would have the state s. The text `part`, the
--- beginning of the next item, was written already. The program's parser may omit bytes of a long document from its
--- stored text. If the beginning of a long document was written, `front` is the output for the stored part of this
--- beginning, and `at` is the length of the stored part. After the program's parser has rejected a byte, `front` and
--- `at` may have any values.
+-- The program's parser has the state r. A parser that stores every byte has the state s after the same bytes. The text
+-- `part`, the beginning of the next item, was written already. The program's parser may omit bytes of a long document
+-- from its stored text. If the beginning of a long document was written, the parser has stored `at` bytes of it, and
+-- `front` is the output for these stored bytes. If the program's parser has rejected a byte, `front` and `at` may have
+-- any values.
 pub data Tracks (s r : State) (front : List ℕ) (at : ℕ) (w : Words) (part : List ℕ) : Type 0 where
   tracks_whole : Like s r → front ≡ [] → part ≡ [] → Tracks s r front at w part
   tracks_long : (cut : LongCut) (name : Name) → Mirrors cut name s r → front ≡ cut.front → at ≡ length cut.stored → (length front == 0) ≡ false
       → part ≡ before w ++ cut.written → Tracks s r front at w part
   tracks_stuck : (cut : LongCut) → Rejected cut s r → part ≡ before w ++ cut.written → Tracks s r front at w part
 
--- The parser read the list `bytes`, and each item whose last byte is in `bytes` was written completely. The text `part`
--- was written before the parser read `bytes`, and is the beginning of an item that was not complete then. After the
--- parser has read `bytes`, `part'` is the written beginning of the next item, which is not yet complete.
+-- The parser has read the list `bytes`. Each item that ends in `bytes` is written completely. Before the parser read
+-- `bytes`, the output ended with `part`, the beginning of an incomplete item. After the parser has read `bytes`, the
+-- output ends with `part'`, the beginning of the next incomplete item.
 pub record Feeds (s : State) (w : Words) (part bytes : List ℕ) (r' : State) (front' : List ℕ) (at' : ℕ) (w' : Words) (held held' : Option (List ℕ)) : Type 0 where
   pub part' : List ℕ
   pub tracks : Tracks (after s bytes) r' front' at' w' part'
@@ -130,7 +129,7 @@ pub record Feeds (s : State) (w : Words) (part bytes : List ℕ) (r' : State) (f
 abbrev pub all_text : Words → List Piece → List ℕ
 all_text w all = texts w all ++ last_text (words_behind w all)
 
--- A write failed within the text `whole`, so only a prefix of `whole` was written.
+-- A write of the text `whole` failed, so the writer accepted only a prefix of this text.
 pub record EndsInPart (fault : ScriptFault) (whole : List ℕ) (held held' : Option (List ℕ)) : Type 0 where
   pub text : List ℕ
   pub missing : List ℕ
@@ -148,9 +147,9 @@ EndsAnswers s w held held' (Err (LateMember at)) = ⊥
 EndsAnswers s w held held' (Err (Device fault)) = EndsInPart fault (last_text w) held held' × (end_of s.place ≡ Ok tt)
 
 -- What a conversion writes, and which result it has, when the parser reaches the end of the input. The input has
--- CouchDB's responses or a script's output. If the input is a script's output without a line end after the last line, a
--- line end is first added to the input. The text `part`, the beginning of an item, was written before the conversion
--- reached the input's end.
+-- CouchDB's responses or a script's output. If the input is a script's output that lacks its last line end, a line end
+-- is first added to the input. Before the conversion reached the input's end, it wrote the text `part`, the beginning
+-- of an item.
 abbrev pub Finishes : State → Words → List ℕ → Option (List ℕ) → Option (List ℕ) → Result ℕ AnswerFault → Type 0
 Finishes s w part held held' (Ok passed) =
     (text : List ℕ) × Appends held held' text × (part ++ text ≡ all_text w (pieces s (last_end s)))
@@ -167,26 +166,26 @@ Finishes s w part held held' (Err (Device fault)) =
 -- ---- everything from a reader
 
 -- The list `read`, the input of a conversion, has all remaining bytes of the reader. If the reader's bytes are a
--- script's output without a line end after the last line, `read` ends with an added line end. The parser accepts every
+-- script's output that lacks its last line end, the list `read` ends with an added line end. The parser accepts every
 -- byte of `read`.
 abbrev pub IsAll : Wanted → Option (List ℕ) → List ℕ → Type 0
 IsAll wanted left read =
     (input : List ℕ) × Gives left input × (read ≡ whole (start wanted) input) × (is_refused (after (start wanted) input).place ≡ false)
 
 -- The list `read`, the input of a conversion, has all remaining bytes of the reader. If the reader's bytes are a
--- script's output without a line end after the last line, `read` ends with an added line end. Unlike `IsAll`, the
--- definition `IsLeft` allows that the parser rejects a byte of `read`.
+-- script's output that lacks its last line end, the list `read` ends with an added line end. `IsLeft` permits that the
+-- parser rejects a byte of `read`, but `IsAll` does not.
 abbrev pub IsLeft : Wanted → Option (List ℕ) → List ℕ → Type 0
 IsLeft wanted left read = (input : List ℕ) × Gives left input × (read ≡ whole (start wanted) input)
 
--- The input of a conversion is a prefix of the reader's remaining bytes, and the last byte of this prefix is rejected.
+-- The input of a conversion is a prefix of the reader's remaining bytes, and the parser rejects a byte of this prefix.
 abbrev pub IsFront : Wanted → Option (List ℕ) → List ℕ → Type 0
 IsFront wanted left read =
     (rest : List ℕ) × Gives left (read ++ rest) × (is_refused (after (start wanted) read).place ≡ true)
 
--- The input consists of complete responses, `passed` documents were skipped, and the items in the input are written.
--- The list `left` has the bytes that the reader had not returned before the conversion. The writer had accepted the
--- bytes `held` before the input was converted, and has accepted the bytes `held'` after the conversion of the input.
+-- The input consists of complete responses. All items in the input are written, and `passed` documents were skipped.
+-- The list `left` has the bytes that the reader has not yet returned when the conversion begins. The writer has
+-- accepted the bytes `held` before the conversion, and the bytes `held'` after the conversion.
 abbrev pub Answered : Wanted → Words → Option (List ℕ) → Option (List ℕ) → Option (List ℕ) → ℕ → Type 0
 Answered wanted w left held held' passed =
     (read : List ℕ) × IsAll wanted left read × Appends held held' (all_text w (pieces (start wanted) read))
@@ -216,11 +215,11 @@ abbrev pub Converts : Result ℕ AnswerFault → Wanted → Words → Option (Li
 Converts (Ok passed) wanted w left held held' = Answered wanted w left held held' passed
 Converts (Err fault) wanted w left held held' = Stopped wanted w left held held' fault
 
--- What a conversion guarantees if its input consists of CouchDB's responses or of a script's output. The list `all` has
+-- What a conversion guarantees if its input is valid: CouchDB's responses, or a script's output. The list `all` has
 -- exactly the items of the input. The conversion of valid responses, or of a script's output, never fails with the
--- error `Refused`. If the conversion succeeds, it has written all items. After the error `LateMember`, the output has a
--- prefix of the items in the list `all`, followed by the text `begun`. The text `begun` was written for a part of the
--- next item.
+-- error `Refused`. If the conversion succeeds, it has written all items. After the error `LateMember`, the output
+-- consists of the first items of the list `all`, followed by the text `begun`. The conversion wrote the text `begun`
+-- for a part of the next item.
 abbrev pub ReadsAnswers : Words → List Piece → Option (List ℕ) → Option (List ℕ) → Result ℕ AnswerFault → Type 0
 ReadsAnswers w all held held' (Ok passed) = Appends held held' (all_text w all)
 ReadsAnswers w all held held' (Err (Refused why at)) = ⊥
@@ -231,16 +230,16 @@ ReadsAnswers w all held held' (Err (Device fault)) = ⊤
 
 -- The error `Read` means that the writer did not fail, and that either the reader failed or the maximum number of reads
 -- was reached. The error `Write` means that the writer failed, and that the reader did not fail. An error other than
--- `Read` and `Write` means that neither the reader nor the writer failed. The reader's reads, the reader's failures and
--- the writer's failures are counted in `reads`, `reader` and `writer`. The counts after the call are `reads'`,
--- `reader'` and `writer'`.
+-- `Read` and `Write` means that neither the reader nor the writer failed. Before the call, the numbers of reads, of the
+-- reader's failures and of the writer's failures are `reads`, `reader` and `writer`. After the call, these three
+-- numbers are `reads'`, `reader'` and `writer'`.
 abbrev pub CountsOf : AnswerFault → ℕ → ℕ → ℕ → ℕ → ℕ → ℕ → Type 0
 CountsOf (Refused why at) reads reads' reader reader' writer writer' = (reader' ≡ reader) × (writer' ≡ writer)
 CountsOf (LateMember at) reads reads' reader reader' writer writer' = (reader' ≡ reader) × (writer' ≡ writer)
 CountsOf (Device fault) reads reads' reader reader' writer writer' = IsFaultOf fault reads reads' reader reader' writer writer'
 
--- The writer failed if and only if the conversion returned the error of a failed write. The numbers of the writer's
--- failures before and after the call are `writer` and `writer'`.
+-- The writer failed if and only if the conversion returned the error of a failed write. The writer has failed `writer`
+-- times before the call, and `writer'` times after the call.
 abbrev pub CountsOfWriter : Result ℕ AnswerFault → ℕ → ℕ → Type 0
 CountsOfWriter (Ok passed) writer writer' = writer' ≡ writer
 CountsOfWriter (Err (Refused why at)) writer writer' = writer' ≡ writer

@@ -43,13 +43,13 @@ counted_up w = record w { count = cond (is_full w) 0 (more w.count); told = true
 abbrev pub id_kept : Words → List ℕ → Words
 id_kept w id = record w { id = id; listed = false }
 
--- The text that the formatter writes for a document, given the document's own text.
+-- The output for a document: the document's own text, with the formatter's texts before and after it.
 abbrev pub document_text : Words → List ℕ → List ℕ
 document_text w text = before w ++ (text ++ behind w)
 
--- The text that is written for a part of a document: the bytes of `front` that were not written earlier, and then the
--- bytes `bytes`. The first `told` bytes of `front` were written earlier. If `told` is 0, the value of `part_text`
--- begins with the text that the formatter writes before a document.
+-- The output for a part of a document: the bytes of `front` that are not yet written, and then the bytes `bytes`. The
+-- first `told` bytes of `front` are already written. If `told` is 0, the output begins with the text that the formatter
+-- writes before a document.
 abbrev pub part_text : Words → List ℕ → ℕ → List ℕ → List ℕ
 part_text w front told bytes = cond (told == 0) (before w) [] ++ (drop told front ++ bytes)
 
@@ -61,12 +61,12 @@ rest_text w text told = drop told text ++ behind w
 abbrev pub with_document : Words → List ℕ → Words
 with_document w text = counted_up (id_kept w (id_of text))
 
--- Whether the formatter must close the request body before the next document. The formatter must close a body that is
--- full and has lists of revisions (`has_lists`).
+-- Whether the formatter must close the request body before the next document. The formatter must close a full body
+-- before the next document if the body has lists of revisions (`has_lists`).
 abbrev pub is_over : Words → Bool
 is_over w = has_lists w.form && (nat_lt 0 w.count && w.count == w.size)
 
--- The text that closes the request body before the next document, or the empty text if the formatter need not close the
+-- The text that closes the request body before the next document. The text is empty if the formatter need not close the
 -- body (`is_over`).
 abbrev pub over_text : Words → List ℕ
 over_text w = cond (is_over w) (closing w.form) []
@@ -82,7 +82,7 @@ first_rev_text w text =
 abbrev pub with_first_rev : Words → Words
 with_first_rev w = record (counted_up (over w)) { listed = true }
 
--- Whether the formatter adds the next revision to a list that already has another revision of the same document.
+-- Whether the formatter adds the next revision to a list that already has a revision of the document.
 abbrev pub is_further : Words → Bool
 is_further w = has_lists w.form && w.listed
 

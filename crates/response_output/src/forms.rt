@@ -41,7 +41,7 @@ pub(crate) fn separator(form: Form) -> &'static [u8]
     }
 }
 
-/// Returns the text with which each item ends in the output format `form`.
+/// Returns the text at the end of each item in the output format `form`.
 pub(crate) fn ends(form: Form) -> &'static [u8]
     ensures { result.now ≡ ends_of form }
 {

@@ -26,8 +26,8 @@ use script_engine::{Chunks, ScriptFault, ScriptRead, ScriptWrite, write_all};
 use std::alloc::{AllocError, Global};
 use thiserror::Error;
 
-/// The maximum number of bytes that the parser reads at once. After reading `PART` bytes, the loop looks again for a
-/// run of bytes that the parser does not store.
+/// The maximum number of bytes that the parser reads at once. After at most `PART` bytes, the loop checks again whether
+/// the next bytes form a run, which the parser does not store.
 const PART: usize = 4_096;
 
 /// Why reading stopped early.
@@ -37,8 +37,8 @@ pub enum AnswerFault {
     /// rejected byte.
     #[error("refused: {why} at byte {at}")]
     Refused { why: Refusal, at: u64 },
-    /// The parser ended a long document in which a member `_id`, `_rev`, `_revisions` or `_deleted` follows an
-    /// attachment. The field `at` is the number of bytes that the parser read.
+    /// A long document has a member `_id`, `_rev`, `_revisions` or `_deleted` after an attachment. The call returns the
+    /// error when the document ends. The field `at` is the number of bytes that the parser read.
     #[error("refused: LateMember at byte {at}")]
     LateMember { at: u64 },
     /// The reader, the writer or an allocation failed.
@@ -134,9 +134,9 @@ fn tell_rest<W: ScriptWrite>(
     }
 }
 
-/// Writes the front (the output for the beginning of a long document) without its first `told` bytes, which were
-/// written before. After the front, `tell_run` writes the list `run`, which has bytes of the document that the parser
-/// did not store.
+/// Writes the front without its first `told` bytes, which were already written. The front is the output for the
+/// beginning of a long document. After the front, the call writes `run`: bytes of the document that the parser did not
+/// store.
 fn tell_run<W: ScriptWrite>(
     front: &Front,
     told: usize,
@@ -175,7 +175,7 @@ fn first_part(bytes: &[u8]) -> &[u8]
     }
 }
 
-/// Whether the byte that the parser read last ends a long document, whose beginning has already been written.
+/// Whether the last byte that was read completed a document whose beginning has already been written.
 fn ends_front(reading: &Reading, front: &Front) -> bool
     ensures found { result ≡ true → (state_of reading.now).found ≡ Document }
     ensures some { result ≡ true → (length (front_of front.now) == 0) ≡ false }
@@ -222,9 +222,9 @@ fn feed_part<W: ScriptWrite>(
     }
 }
 
-/// Writes a run (consecutive bytes of a string in a long document) without storing the bytes of the run in the parser.
-/// If `bytes` does not begin with bytes that can be written in this way, the parser reads a prefix of `bytes`. Returns
-/// the number of bytes that were read.
+/// Writes a run without storing the run in the parser. A run consists of consecutive bytes of a string in a long
+/// document. If `bytes` does not begin with a run, the parser reads a prefix of `bytes`. Returns the number of bytes
+/// that were read.
 fn feed_some<W: ScriptWrite>(
     reading: &mut Reading,
     front: &mut Front,
@@ -300,7 +300,7 @@ fn ended(reading: &Reading) -> Result<u64, AnswerFault>
     }
 }
 
-/// If the input ends within a line of a script's output, passes a line feed to the parser.
+/// Passes a line feed to the parser if the input ends within a line of a script's output.
 fn feed_rest<W: ScriptWrite>(
     reading: &mut Reading,
     front: &mut Front,
@@ -411,13 +411,13 @@ fn run_chunks<R: ScriptRead, W: ScriptWrite>(
 ///
 /// # Errors
 ///
-/// - `Refused`: the input is not a response. All items before the rejected byte have been written. If the parser
-///   rejects a byte within a long document, the output may also have the long document's beginning.
-/// - `LateMember`: in a long document, a member `_id`, `_rev`, `_revisions` or `_deleted` follows an attachment. All
-///   items before the long document, and the beginning of the long document, have been written.
+/// - `Refused`: the input is not a response. All items before the rejected byte have been written. If the rejected byte
+///   is inside a long document, the output may also have the beginning of this document.
+/// - `LateMember`: in a long document, a member `_id`, `_rev`, `_revisions` or `_deleted` follows an attachment. The
+///   output has all items before the long document, and the beginning of the long document.
 /// - `Device`: the reader, the writer or an allocation failed. The fault in `Device` is `Read` if the reader failed
-///   while `run_answers` ran, or after 4,294,967,295 reads. Each read returns at most 65,536 bytes. The fault in
-///   `Device` is `Write` if the writer failed while `run_answers` ran, and `Memory` if an allocation failed.
+///   during the call, or if the call needs more than 4,294,967,295 reads. Each read returns at most 65,536 bytes. The
+///   fault in `Device` is `Write` if the writer failed during the call, and `Memory` if an allocation failed.
 pub fn run_answers<R: ScriptRead, W: ScriptWrite>(
     alloc: Global,
     reading: &mut Reading,
@@ -427,8 +427,9 @@ pub fn run_answers<R: ScriptRead, W: ScriptWrite>(
 ) -> Result<u64, AnswerFault>
     requires begins { state_of reading.old ≡ start reading.old.wanted }
 
-    // If the input consists of CouchDB responses, `run_answers` writes the contents of the responses. If the parser may
-    // skip objects that do not have a document, `run_answers` never rejects a CouchDB response.
+    // Suppose that the caller requests documents, and that the parser may skip objects without a document. If the input
+    // consists of CouchDB responses, the call never returns `Refused`. A successful call writes the contents of the
+    // responses.
     ensures forms { (text : List ℕ) → (held : List Piece) → wants_documents reading.old.wanted ≡ true
         → is_strict reading.old.wanted ≡ false → R.left reader.old ≡ Some text
         → IsAnswered reading.old.wanted text held → ReadsAnswers (words_of_wording wording.old) held
@@ -446,8 +447,8 @@ pub fn run_answers<R: ScriptRead, W: ScriptWrite>(
         → R.left reader.old ≡ Some text → IsChangeScript text held
         → ReadsAnswers (words_of_wording wording.old) held (W.held writer.old) (W.held writer.new) result }
 
-    // If the caller requests leaves, the call writes the leaves in a page of `_changes` or in a response of
-    // `_revs_diff`.
+    // If the caller requests leaves, and the input is a page of `_changes` or a response of `_revs_diff`, the call
+    // writes the leaves in the input.
     ensures leaves { (text : List ℕ) → (held : List Piece) → reading.old.wanted ≡ Leaves
         → R.left reader.old ≡ Some text → AreLeaves text held
         → ReadsAnswers (words_of_wording wording.old) held (W.held writer.old) (W.held writer.new) result }
@@ -456,9 +457,9 @@ pub fn run_answers<R: ScriptRead, W: ScriptWrite>(
     ensures ok { IfOk result (λ passed. Answered reading.old.wanted (words_of_wording wording.old)
         (R.left reader.old) (W.held writer.old) (W.held writer.new) passed) }
     ensures end { OnOk result (IsAtEnd (R.left reader.new)) }
-    // The clauses `ok` and `fault` describe the output for all bytes that the reader had not yet returned when
-    // `run_answers` was called. The clause `took` describes the output for the bytes that `run_answers` read. If the
-    // call succeeds, the reads returned the complete input.
+    // The clauses `ok` and `fault` describe the output for the input that was unread when `run_answers` was called. The
+    // clause `took` describes the output for the bytes that `run_answers` read. If the call succeeds, the reads
+    // returned the complete input.
     ensures took { (input : List ℕ) × Appends (R.taken reader.old) (R.taken reader.new) input
         × Converts result reading.old.wanted (words_of_wording wording.old) (Some input) (W.held writer.old)
         (W.held writer.new) }

@@ -142,9 +142,9 @@ impl Wording {
         Ok(())
     }
 
-    /// Formats a part of a document: the text `front` without its first `told` bytes, and then `bytes`. The caller has
-    /// already written the first `told` bytes of `front`. If `told` is 0, the formatted text begins with the text that
-    /// the output format puts before each item.
+    /// Formats a part of a document: `front[told..]`, followed by `bytes`. The caller has already written the first
+    /// `told` bytes of `front`. If `told` is 0, the call first adds the text that precedes each item in the output
+    /// format.
     pub fn put_part(&mut self, front: &[u8], told: usize, bytes: &[u8]) -> Result<(), AllocError>
         requires { told ≤ length front.now }
         ensures text { OnOk result (made_of self.new ≡ part_text (words_of_wording self.old) front.now told bytes.now) }
@@ -158,7 +158,7 @@ impl Wording {
         self.text.extend_from_slice(bytes)
     }
 
-    /// Formats a document without its first `told` bytes, which the caller has already written.
+    /// Formats the rest of a document. The caller has already written the document's first `told` bytes.
     pub fn put_rest(&mut self, document: &[u8], told: usize) -> Result<(), AllocError>
         requires { told ≤ length document.now }
         ensures text { OnOk result (made_of self.new ≡ rest_text (words_of_wording self.old) document.now told) }
@@ -221,7 +221,7 @@ impl Wording {
         self.text.extend_from_slice(rev)
     }
 
-    /// Formats a further revision in a document's list of revisions.
+    /// Formats the next revision in a document's list of revisions.
     fn put_further(&mut self, rev: &[u8]) -> Result<(), AllocError>
         requires { made_of self.old ≡ [] }
         ensures text { OnOk result (made_of self.new ≡ 44 ∷ rev.now) }
@@ -270,7 +270,7 @@ impl Wording {
         Ok(())
     }
 
-    /// Whether one more item fills the request body, after which the formatter closes the body.
+    /// Whether the request body is full after one more item, so that the formatter must close the body.
     fn is_full(&self) -> bool
         ensures { result ≡ is_full (words_of_wording self.now) }
     {
@@ -303,7 +303,7 @@ fn made(alloc: Global, form: Form, begins: Vec<u8>, size: u64) -> Wording
     }
 }
 
-/// Returns a count plus one, or 2^64 - 1 if the count is already 2^64 - 1.
+/// Returns `count + 1`, or `u64::MAX` if the count is already `u64::MAX`.
 fn more(count: u64) -> u64
     ensures { result ≡ more count }
 {

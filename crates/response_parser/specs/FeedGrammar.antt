@@ -3,8 +3,8 @@
 -- and "/{db}/_revs_diff".
 --
 -- In this file, k is a name without its opening quotation mark, s is white space, and d is the number of open lists and
--- objects. In this file, t is the text of a value up to the comma or brace that follows the value, and u is the same
--- value on one line.
+-- objects. In this file, t is the text of a JSON value, which ends before a comma or a closing brace. The text u is the
+-- same value on one line.
 use Rattle.std.specs.Prelude.{◌≡◌, ℕ, ◌==◌, slice_index, List, [], ◌∷◌, ◌++◌, Bool, true, false, codes}
 use Rattle.doc_envelope.specs.Texts.{Spaces, EndsString, Closed, is_space, is_json}
 use Rattle.response_parser.specs.Names.{name_of}
@@ -18,9 +18,9 @@ use Rattle.response_parser.specs.declared.place.Found.TheVariants.{Id, Rev}
 -- ---- objects and lists
 
 -- The members of an object, up to its closing brace. The parameter `Member` is a relation between two flags n and n', a
--- member's text m, and the member's items ps. In a feed row, the flag n is true exactly if the row's id precedes the
--- member m and a member `changes` is not between them. The flag n' says the same of the member after m. In an object
--- that is not a feed row, the flags n and n' are false.
+-- member's text m, and the member's items ps. In a feed row, the flag n says whether the row has an id before the
+-- member m, without a member `changes` between the two. The flag n' is the flag n of the member after m. In objects
+-- other than feed rows, the flags n and n' are false.
 pub data AreMembersOf (Member : Bool → Bool → List ℕ → List Piece → Type 0) : Bool → List ℕ → List Piece → Type 0 where
   last_member : {n n' : Bool} {m : List ℕ} {ps : List Piece} → Member n n' m ps → AreMembersOf Member n (m ++ 125 ∷ []) ps
   member : {n n' : Bool} {m t : List ℕ} {ps qs : List Piece} (s : List ℕ) → Member n n' m ps → Spaces s → AreMembersOf Member n' t qs
@@ -60,15 +60,15 @@ is_skipped names.Reason = false
 is_skipped names.Other = true
 is_skipped names.Foreign = false
 
--- A member that the parser skips in a response, when the caller requested document ids and revisions. The flags `inner`
--- and `entry` say whether a member is in a document's list of revisions, and whether the member is in the entry of a
--- document.
+-- A member that the parser skips if the caller requested leaves (document ids and revisions). The flag `inner` says
+-- whether the member is in a document's list of revisions. The flag `entry` says whether the member is in a document's
+-- entry.
 pub data IsSkipped (inner entry : Bool) (d : ℕ) : List ℕ → Type 0 where
   skipped : {k t u : List ℕ} {name : Name} (s s' : List ℕ) → EndsString k → is_json (34 ∷ k) ≡ true
       → name_of Leaves false inner entry d (34 ∷ k) ≡ name → is_skipped name ≡ true → Spaces s → Spaces s' → IsValue t u
       → IsSkipped inner entry d (34 ∷ (k ++ (s ++ 58 ∷ (s' ++ t))))
 
--- A skipped member that is in an outermost object, and whose value is not an object.
+-- A member that the parser skips in an outermost object, and whose value is not an object.
 pub data IsSkippedOutside : List ℕ → Type 0 where
   skipped_outside : {k t u : List ℕ} {b : ℕ} {name : Name} (s s' : List ℕ) → EndsString k → is_json (34 ∷ k) ≡ true
       → name_of Leaves false false false 1 (34 ∷ k) ≡ name → is_skipped name ≡ true → Spaces s → Spaces s'

@@ -11,14 +11,14 @@ use Rattle.response_parser.specs.Values.{document_found}
 use Rattle.response_parser.specs.declared.place.Wanted.{Wanted}
 use Rattle.response_parser.specs.declared.place.Wanted.TheVariants.{Documents, Enveloped, Bodies, Unfolded, Leaves, Changes}
 
--- A minimum number of stored bytes. The parser passes on string bytes of a document without storing them only after it
--- has stored at least 262,144 bytes of this document.
+-- A minimum number of stored bytes. Before the parser passes on string bytes of a document without storing them, it has
+-- stored at least 262,144 bytes of the document.
 abbrev pub long : ℕ
 long = 262144
 
 -- The text s is the beginning of a document, and S is the output for this beginning. After the beginning s, the parser
--- may pass on string bytes of the document without storing them. If a document begins with s, its output begins with S,
--- unless the document is late (`IsLate`).
+-- may pass on string bytes of the document without storing them. If a document begins with s and is not late
+-- (`IsLate`), its output begins with S.
 abbrev pub IsStart : Wanted → List ℕ → List ℕ → Type 0
 IsStart Documents s S = ⊥
 IsStart Enveloped s S = IsPutStart s S
@@ -29,8 +29,8 @@ IsStart Changes s S = ⊥
 
 -- The beginning of a document. The parser may have omitted string bytes of the document's beginning from its stored
 -- text. The text `full` has all bytes of a document's beginning, and the text `stored` has only the bytes that the
--- parser stored. The text `written` is the output that is computed from `full`, and the text `front` is the output that
--- is computed from `stored`.
+-- parser stored. The text `written` is the output for the text `full`. The text `front` is the output for the text
+-- `stored`.
 pub record Cut : Type 0 where
   pub full : List ℕ
   pub stored : List ℕ
@@ -52,10 +52,10 @@ pub record HasWritten (s : State) (written : List ℕ) : Type 0 where
 
 -- In the parser's state s, the parser has just read the end of a document. The text `cut.full` is the beginning of the
 -- document, and has at least 262,144 bytes (`long`). The text `written` is the output for the document's beginning
--- `cut.full`. The output for `cut.stored` and the document's later bytes does not begin with `cut.front`, the output
--- for `cut.stored` alone. A document that begins with `cut.full` is late only if a member `_id`, `_rev`, `_revisions`
--- or `_deleted` follows this beginning. An envelope stores the members `_id`, `_rev`, `_revisions` and `_deleted`
--- outside of `whole`.
+-- `cut.full`. The text `cut.front` is the output for `cut.stored` alone. The output for `cut.stored` together with the
+-- document's later bytes does not begin with `cut.front`. A document is late only if a member `_id`, `_rev`,
+-- `_revisions` or `_deleted` follows its beginning `cut.full`. An envelope stores the members `_id`, `_rev`,
+-- `_revisions` and `_deleted` outside of its member `whole`.
 pub record IsLate (s : State) (written : List ℕ) : Type 0 where
   pub cut : Cut
   pub rest : List ℕ

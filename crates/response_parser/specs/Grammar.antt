@@ -13,15 +13,15 @@ use Rattle.response_parser.specs.declared.place.Found.TheVariants as found
 
 -- ---- values and names
 
--- The text t is a JSON value, up to the comma or brace that follows the value, and u is the same value on one line.
+-- The text t is a JSON value, which ends before a comma or a closing brace. The text u is the same value on one line.
 pub record IsValue (t u : List ℕ) : Type 0 where
   pub closed : Closed 0 t u
   pub first : is_space (slice_index t 0) ≡ false
   pub json : is_json u ≡ true
 
 -- The text k is a member's name without the opening quotation mark. The Boolean `first` says whether the member is the
--- first member of its object, and d is the number of open lists and objects. The parser derives the kind `name` of a
--- member from its name k, from `first` and from d.
+-- first member of its object, and d is the number of open lists and objects. The member's kind `name` depends on the
+-- caller's request `wanted`, on k, on `first` and on d.
 pub record IsNamed (wanted : Wanted) (first : Bool) (d : ℕ) (k : List ℕ) (name : Name) : Type 0 where
   pub string : EndsString k
   pub json : is_json (34 ∷ k) ≡ true
@@ -78,8 +78,7 @@ pub data IsDoc (wanted : Wanted) : List ℕ → List Piece → Type 0 where
   no_id : {o u : List ℕ} → IsLateDocument wanted o u → has_id u ≡ false → IsDoc wanted o []
   no_names : (s : List ℕ) → Spaces s → IsDoc wanted (123 ∷ (s ++ 125 ∷ [])) []
 
--- The rest of an outermost object's list `docs`, from the start of one of the list's items to the list's closing
--- bracket.
+-- A part of an outermost object's list `docs`, from the start of an item to the closing bracket of the list.
 pub data AreDocs (wanted : Wanted) : List ℕ → List Piece → Type 0 where
   last_doc : {o : List ℕ} (s : List ℕ) {ps : List Piece} → IsDoc wanted o ps → Spaces s → AreDocs wanted (o ++ (s ++ 93 ∷ [])) ps
   doc : {o : List ℕ} (s s' : List ℕ) {more : List ℕ} {ps qs : List Piece} → IsDoc wanted o ps → Spaces s → Spaces s' → AreDocs wanted more qs
@@ -99,8 +98,8 @@ mutual
         → IsObject wanted d (123 ∷ (s ++ t)) ps
     itself : {d : ℕ} {o : List ℕ} {ps : List Piece} → d < 8 → IsDocument wanted o ps → IsObject wanted d o ps
 
-  -- The members of an object from any of its names on, up to the closing brace. The Boolean argument is true if the
-  -- members begin with the object's first name.
+  -- A part of an object, from the name of one of its members to the closing brace. The Boolean argument says whether
+  -- this member is the object's first member.
   pub data IsMembers (wanted : Wanted) : Bool → ℕ → List ℕ → List Piece → Type 0 where
     last_value : {f : Bool} {d : ℕ} {k : List ℕ} (s s' : List ℕ) {t u : List ℕ} {name : Name} {ps : List Piece} → IsNamed wanted f d k name → Holds wanted name u ps
         → Spaces s → Spaces s' → IsValue t u → IsMembers wanted f d (34 ∷ (k ++ (s ++ 58 ∷ (s' ++ (t ++ 125 ∷ []))))) ps

@@ -21,7 +21,7 @@ text_begun place s b = record s { place = Line place; text = b ∷ [] }
 abbrev pub is_lower : ℕ → Bool
 is_lower b = nat_le 97 b && nat_le b 122
 
--- The parser's state after a line end. If a response is required and the parser has not read a response, the parser
+-- The parser's state after a line end. If the input must have a response, but the parser has not read one, the parser
 -- returns to its initial place in the grammar.
 abbrev pub line_ended : State → State
 line_ended s = at (cond (s.some || is_strict s.wanted) Between Start) s

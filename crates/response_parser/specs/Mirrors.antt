@@ -1,7 +1,6 @@
--- This file compares a parser that stores each byte with a parser that passes on some string bytes of a long document
--- without storing them. The *full* state is the state of the parser that stores each byte. The *stored* state is the
--- state of the parser that passes on some string bytes without storing them. The stored state equals the full state,
--- except that the text in the stored state lacks the bytes that were passed on without being stored.
+-- This file compares the states of two parsers that read the same long document. The parser with the *full* state
+-- stores every byte. The parser with the *stored* state passes on some string bytes without storing them. The stored
+-- state equals the full state, except that its text lacks the bytes that the parser did not store.
 use Rattle.std.specs.Prelude.{◌≡◌, ℕ, ◌≤◌, ◌==◌, length, slice_index, List, ◌++◌, Bool, true, false}
 use Rattle.doc_envelope.specs.Names.{is_log}
 use Rattle.response_parser.specs.Names.{is_plain}
@@ -38,7 +37,7 @@ is_idle (Revs place) = false
 is_idle (Line place) = false
 is_idle (Refused why) = true
 
--- The states a and b are equal, except that the stored texts may differ if the parser does not use its stored text.
+-- The states a and b of a parser are equal, or differ only in a stored text that the parser does not use.
 pub data Like (a b : State) : Type 0 where
   equal : a ≡ b → Like a b
   alike : a ≡ record b { text = a.text } → is_idle b.place ≡ true → Like a b
@@ -70,19 +69,19 @@ pub data IsWithin (name : Name) : Place → Type 0 where
   in_string : IsWithin name (Quoted name)
   in_escape : IsWithin name (Escaped name)
 
--- In state s, the parser is in a document, and `name` is the kind of the member by which it recognized the document
--- (`is_document`). The parser need not store the next string bytes of the document.
+-- In state s, the parser is in a document, which it recognized by a member of the kind `name` (`is_document`). The
+-- parser need not store the next string bytes of the document.
 pub record InDocument (name : Name) (s : State) : Type 0 where
   pub document : is_document name ≡ true
   pub object : slice_index s.text 0 ≡ 123
   pub nested : is_plain name ≡ true → (s.nesting == 0) ≡ false
   pub found : s.found ≡ Nothing
 
--- The states `full` and `stored` of two parsers that have read the same part of a document. The parser with the state
--- `full` stores each byte, and the parser with the state `stored` may omit string bytes from its stored text. The
--- states `full` and `stored` differ only in their texts. The text of `full` begins with `cut.full`, and the text of
--- `stored` begins with `cut.stored`, the stored bytes of `cut.full`. The text of `full` after its part `cut.full`
--- equals the text of `stored` after its part `cut.stored`.
+-- Two parsers with the states `full` and `stored` have read the same part of a document. The parser with the state
+-- `full` stores each byte. The parser with the state `stored` may omit string bytes from its stored text. The states
+-- `full` and `stored` differ only in their texts. The text of `full` begins with `cut.full`. The text of `stored`
+-- begins with `cut.stored`, the stored bytes of `cut.full`. After the beginnings `cut.full` and `cut.stored`, the texts
+-- of `full` and `stored` are the same.
 pub record Mirrors (cut : Cut) (name : Name) (full stored : State) : Type 0 where
   pub place : IsWithin name stored.place
   pub same : full ≡ record stored { text = full.text }

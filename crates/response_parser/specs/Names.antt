@@ -18,15 +18,15 @@ use Rattle.response_parser.specs.declared.place.Found.TheVariants as found
 abbrev pub id_name : Bool → Bool → Name
 id_name strict first = cond first Plain (cond strict Foreign Passed)
 
--- The kind of an outermost object's member with the name t, which is `Last` or `Seq` for members of a PouchDB dump, and
--- otherwise `Other`.
+-- The kind of a member with the name t in an outermost object. The kind is `Last` or `Seq` for members of a PouchDB
+-- dump, and otherwise `Other`.
 abbrev pub outermost_name : Bool → List ℕ → Name
 outermost_name first t =
     cond (bytes_eq t (codes "\"db_info\"")) Last (cond (first && bytes_eq t (codes "\"seq\"")) Seq Other)
 
--- For a caller that requested documents, the kind that the parser assigns to a JSON member with the name t. The flag
--- `first` says whether the name t is the first name of its object. The flag `item` says whether the object is an item
--- of the outermost object's list `docs`. The flag `outermost` says whether the object is an outermost object.
+-- The kind of a JSON member with the name t, if the caller requested documents. The flag `first` says whether the name
+-- t is the first name of its object. The flag `item` says whether the object is an item of the outermost object's list
+-- `docs`. The flag `outermost` says whether the object is an outermost object.
 abbrev pub document_name : Bool → Bool → Bool → Bool → List ℕ → Name
 document_name strict first item outermost t =
     cond (item && first) (cond (bytes_eq t (codes "\"_id\"")) Plain Item)
@@ -37,11 +37,11 @@ document_name strict first item outermost t =
     (cond (bytes_eq t (codes "\"missing\"") || bytes_eq t (codes "\"error\"")) Passed
     (cond (bytes_eq t (codes "\"last_seq\"")) Last (cond outermost (outermost_name first t) Other)))))))
 
--- For a caller that requested leaves (document ids and revisions), the kind that the parser assigns to a JSON member
--- with the name t. In a document's list of revisions, the parser reads only members `rev`, and ignores all other
--- members. In a document's entry in a `_revs_diff` response, the parser reads only members `missing`, and ignores all
--- other members. The flag `inner` says whether the member is in a document's list of revisions. The flag `entry` says
--- whether the member is in a document's entry.
+-- The kind of a JSON member with the name t, if the caller requested leaves (document ids and revisions). In a
+-- document's list of revisions, the parser reads only members `rev`, and ignores all other members. In a document's
+-- entry in a `_revs_diff` response, the parser reads only members `missing`, and ignores all other members. The flag
+-- `inner` says whether the member is in a document's list of revisions. The flag `entry` says whether the member is in
+-- a document's entry.
 abbrev pub leaf_name : Bool → Bool → List ℕ → Name
 leaf_name inner entry t =
     cond entry (cond (bytes_eq t (codes "\"missing\"")) Missing Other)
@@ -134,8 +134,8 @@ is_id Reason = false
 is_id Other = false
 is_id Foreign = false
 
--- Whether a member's value is one of two lists, according to the member's kind: a document's list of revisions, or the
--- list `docs` of an outermost object.
+-- Whether a member of the given kind has one of two lists as its value: a document's list of revisions, or the list
+-- `docs` of an outermost object.
 abbrev pub is_inner : Name → Bool
 is_inner Plain = false
 is_inner Item = false
@@ -214,8 +214,9 @@ passes Other first = false
 passes Foreign first = false
 
 -- The error that a member's value causes, or `None`. A value that must be a document id or a revision causes an error
--- if it is not a string. A string `reason` causes `CouchError` if a string `error` came before in the response. An
--- earlier `error` does not count if the parser has since entered or left a list or object that the parser searches.
+-- if it is not a string. A string `reason` causes the error `CouchError` if the response has a string `error` before
+-- the `reason`. An earlier `error` does not count if the parser has since entered or left a list or object that it
+-- searches.
 abbrev pub refusal_of : Name → ℕ → Bool → Option Refusal
 refusal_of Plain first failed = None
 refusal_of Item first failed = None

@@ -35,8 +35,8 @@ closed place s =
 abbrev pub list_closed : State → State
 list_closed s = closed AfterMember (record s { inner = false })
 
--- The parser's place after an object: after a member if the object is a document's entry in a `_revs_diff` response,
--- otherwise after a list item.
+-- The parser's place after an object. The place is `AfterMember` if the object is a document's entry in a `_revs_diff`
+-- response, and otherwise `AfterItem`.
 abbrev pub behind_object : State → Place
 behind_object s = cond (s.diff && s.depth == 2) AfterMember AfterItem
 

@@ -17,11 +17,11 @@ pub record IsLong (name : Name) (s : State) : Type 0 where
   pub length_is : long ≤ length s.text
   pub log : is_plain name ≡ true → is_log s.text ≡ false
 
--- String bytes that the parser does not store may follow the text of the state s. The text `front` is the beginning of
--- the document's output that is known before a call of `Front::pass`, and `front'` is the beginning known after the
--- call. If the call keeps `front`, then `front` is not empty, and was built from the complete text of the state s. If
--- the call computes `front'` as the output for the text of the state s, then `front'` is not empty, and begins with
--- `front`. The numbers `at` and `at'` are the lengths of the stored texts from which `front` and `front'` were built.
+-- After the text of the state s, the parser may read string bytes without storing them. The known beginning of the
+-- document's output is `front` before a call of `Front::pass`, and `front'` after the call. If the call keeps `front`,
+-- the text `front` is not empty, and was built from the complete text of the state s. If the call computes `front'` as
+-- the output for the text of the state s, then `front'` is not empty, and begins with `front`. The text `front` was
+-- built from `at` stored bytes, and the text `front'` was built from `at'` stored bytes.
 abbrev pub FollowsFront : State → List ℕ → ℕ → List ℕ → ℕ → Type 0
 FollowsFront s front at front' at' =
     (((length front == 0) ≡ false) × (length s.text ≡ at) × (front' ≡ front) × (at' ≡ at))

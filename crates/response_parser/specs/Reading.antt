@@ -43,8 +43,8 @@ abbrev pub pieces : State → List ℕ → List Piece
 pieces s [] = []
 pieces s (b ∷ bytes) = given (step s b) ++ pieces (step s b) bytes
 
--- The result if the input ends while the parser is at the given place in the grammar: success if the input may end
--- there, otherwise an error.
+-- The result if the input ends at the given place in the grammar: success if the input may end at this place, otherwise
+-- an error.
 abbrev pub end_of : Place → Result (Unit {0}) Refusal
 end_of Start = Err NoAnswer
 end_of Begin = Ok tt

@@ -7,13 +7,13 @@ use Rattle.response_parser.specs.declared.place.Place.TheVariants.{Value, Quoted
 use Rattle.response_parser.specs.declared.place.Name.{Name}
 use Rattle.response_parser.specs.declared.place.Found.TheVariants.{Nothing}
 
--- The count n after it was increased by one (`more`) for each of the given bytes.
+-- The count n, increased by one (`more`) for each of the given bytes.
 abbrev pub more_by : ℕ → List ℕ → ℕ
 more_by n [] = n
 more_by n (b ∷ bytes) = more_by (more n) bytes
 
--- The parser's place in a member's value, if `name` is the member's kind. The place is within a string if the Boolean
--- argument is true, and otherwise outside of strings.
+-- The parser's place in the value of a member of the kind `name`. The place is within a string if the Boolean argument
+-- is true, and otherwise outside of strings.
 abbrev pub in_value_of : Name → Bool → Place
 in_value_of name true = Quoted name
 in_value_of name false = Value name
@@ -37,9 +37,8 @@ pub record Copies (s : State) (bytes : List ℕ) (name : Name) (quoted : Bool) (
   pub none : pieces s bytes ≡ []
 
 -- If the parser can copy the given bytes up to position `from` into a value, the parser can also copy the bytes up to
--- position `to`. The Boolean q says whether the position `from` is within a string, and n is the number of brackets
--- that are open at `from`. The Boolean q' says whether the position `to` is within a string, and n' is the number of
--- brackets that are open at `to`.
+-- position `to`. At position `from`, n brackets are open, and q says whether this position is within a string. At
+-- position `to`, n' brackets are open, and q' says whether this position is within a string.
 abbrev pub Continues : List ℕ → ℕ → Bool → ℕ → ℕ → Bool → ℕ → Type 0
 Continues bytes from q n to q' n' =
     (s : State) → (name : Name) → (q0 : Bool) → (n0 : ℕ) → IsInValue s name q0 n0 → Copies s (take from bytes) name q n

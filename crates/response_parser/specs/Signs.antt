@@ -15,7 +15,8 @@ begins_sign t =
     || bytes_eq t (254 ∷ []) || bytes_eq t (255 ∷ []) || bytes_eq t (codes "H") || bytes_eq t (codes "HT") || bytes_eq t (codes "HTT")
     || bytes_eq t (codes "HTTP")
 
--- The error for input that begins with the text t: the error of the known format that t identifies, or `NoAnswer`.
+-- The error for input that begins with the text t. If t identifies a known format, the error names this format. If t
+-- identifies no known format, the error is `NoAnswer`.
 abbrev pub sign_of : List ℕ → Refusal
 sign_of t =
     cond (bytes_eq t (31 ∷ 139 ∷ [])) Gzip

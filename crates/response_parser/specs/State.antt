@@ -17,8 +17,8 @@ pub record State : Type 0 where
   -- The number of lists and objects that are open at the parser's position.
   pub depth : ℕ
   -- Whether the innermost open object has a known member, such as `ok` or `results`. An object without a known member
-  -- causes the error `NoDocument` if the parser is strict (`is_strict`). If the parser is not strict, it skips the
-  -- object. Whether the innermost open object has a member with a document id.
+  -- causes the error `NoDocument` if the parser is strict (`is_strict`). A parser that is not strict skips an object
+  -- without a known member. Whether the innermost open object has a member with a document id.
   pub known : Bool
   pub named : Bool
   -- Whether the parser's last name is the first name of its object.
@@ -27,8 +27,8 @@ pub record State : Type 0 where
   pub inner : Bool
   -- Whether the current response is a response of `_revs_diff`.
   pub diff : Bool
-  -- Whether the parser has read a member `error` with a string. The field becomes false when the parser enters or
-  -- leaves a list or object that it searches.
+  -- Whether the parser has read a member `error` with a string. The field `failed` becomes false when the parser enters
+  -- or leaves a list or object that it searches.
   pub failed : Bool
   -- The number of brackets that are open within the parser's current value.
   pub nesting : ℕ
@@ -39,8 +39,8 @@ pub record State : Type 0 where
   pub error : List ℕ
   -- The kind of item that the parser's last byte completed.
   pub found : Found
-  -- The number of skipped entries: objects without documents, values (such as errors) instead of documents, and script
-  -- output lines that begin with `refused`.
+  -- The number of skipped entries: objects without documents, other values (such as errors) instead of documents, and
+  -- lines of a script's output that begin with `refused`.
   pub passed : ℕ
   -- The number of bytes that the parser has read.
   pub taken : ℕ
@@ -66,7 +66,7 @@ start wanted = record {
   taken = 0;
 }
 
--- The count n increased by one, unless n is the maximum 2 ^ 64 - 1.
+-- The count n increased by one, or n itself if n is the maximum 2 ^ 64 - 1.
 abbrev pub more : ℕ → ℕ
 more n = cond (nat_lt n 18446744073709551615) (n + 1) n
 

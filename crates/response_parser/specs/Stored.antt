@@ -28,6 +28,6 @@ state_of r = record {
 abbrev pub front_of : Front → List ℕ
 front_of f = f.text.items
 
--- The number of bytes of the current document that were stored when the text of the `Front` was built.
+-- The number of stored bytes of the current document from which the text of the `Front` was built.
 abbrev pub front_length_of : Front → ℕ
 front_length_of f = f.length

@@ -37,9 +37,9 @@ passed_by name first s = record s { passed = cond (passes name first) (more s.pa
 abbrev pub error_kept : Name → ℕ → State → State
 error_kept name first s = cond (is_error name && first == 34) (record s { failed = true; error = s.text }) s
 
--- The parser's state after it has read the value of a member. The member has the kind `name`. If other members follow a
--- first member `seq`, only the other members decide whether the parser skips the object. In a PouchDB dump, an object
--- with a first member `seq` has no other member.
+-- The parser's state after it has read the value of a member. The member has the kind `name`. If the first member of an
+-- object is `seq`, and more members follow, only these later members decide whether the parser skips the object. In a
+-- PouchDB dump, an object whose first member is `seq` has no other member.
 abbrev pub seq_read : Name → State → State
 seq_read name s = record s { known = cond (is_seq name) false s.known }
 

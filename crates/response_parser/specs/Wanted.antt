@@ -31,8 +31,8 @@ wants_changes Unfolded = false
 wants_changes Leaves = false
 wants_changes Changes = true
 
--- Whether the caller's request requires the parser to reject objects without documents. If not, the parser skips
--- objects without documents. If the parser rejects objects without documents, it accepts empty input.
+-- Whether the caller's request requires the parser to reject objects without documents. If the value is false, the
+-- parser skips objects without documents. If the parser rejects objects without documents, it accepts empty input.
 abbrev pub is_strict : Wanted → Bool
 is_strict Documents = false
 is_strict Enveloped = false

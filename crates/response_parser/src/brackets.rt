@@ -29,8 +29,7 @@ impl Reading {
         self.place = Place::Refused(why);
     }
 
-    /// Opens a list or an object, and sets the parser's place in the grammar to the given place, which is inside this
-    /// list or object.
+    /// Opens a list or an object, and sets the parser's place to `place`, which is inside the list or object.
     pub(crate) fn open(&mut self, place: Place)
         ensures { state_of self.new ≡ opened place (state_of self.old) }
     {
@@ -46,8 +45,7 @@ impl Reading {
         }
     }
 
-    /// Closes a list or an object. Sets the parser's place to the place after a closing bracket, unless the bracket
-    /// closed the complete response.
+    /// Closes a list or an object. The parser continues at `place`, or at `Between` if the bracket ends the response.
     pub(crate) fn close(&mut self, place: Place)
         ensures { state_of self.new ≡ closed place (state_of self.old) }
     {
@@ -86,8 +84,8 @@ impl Reading {
         }
     }
 
-    /// Returns the parser's place after an object: after a member if the object is a document's entry in a `_revs_diff`
-    /// response, otherwise after a list item.
+    /// Returns the parser's place after an object. The place is `AfterMember` if the object is a document's entry in a
+    /// `_revs_diff` response, and otherwise `AfterItem`.
     fn behind_object(&self) -> Place
         ensures { result ≡ behind_object (state_of self.now) }
     {

@@ -14,17 +14,17 @@ use std::alloc::AllocError;
 /// A position in the input bytes that the parser is copying to the current JSON value.
 #[derive(Clone, Copy)]
 struct Spot {
-    /// The index of a position in the input bytes that the parser is copying.
+    /// The number of input bytes before this position.
     count: usize,
-    /// Whether a position in the input bytes is inside a JSON string.
+    /// Whether this position is inside a JSON string.
     quoted: bool,
-    /// The number of the current JSON value's brackets that are open at a position in the input bytes.
+    /// The number of brackets of the JSON value that are open at this position.
     nesting: u8,
 }
 
 impl Spot {
-    /// Returns the position after the next bytes of a JSON value that can be copied at once. If the parser must read
-    /// the next byte by itself, the call returns the position `self`.
+    /// Finds the next bytes of a JSON value that can be copied at once, and returns the position after them. Returns
+    /// `self` if the parser must read the next byte separately.
     #[inline(always)]
     fn next(self, bytes: &[u8]) -> Spot
         requires { self.count < length bytes.now }
@@ -39,9 +39,9 @@ impl Spot {
         }
     }
 
-    /// Returns the position after the next quotation mark or two-byte escape in a string. Returns the position before a
-    /// control byte, or before a quotation mark or backslash that is the last input byte. Returns the end of the input
-    /// bytes if they have no further quotation mark, backslash or control byte.
+    /// Returns the position after the next quotation mark or two-byte escape in a string. The call stops before a
+    /// control byte. The call also stops before the last input byte if this byte is a quotation mark or a backslash.
+    /// Returns the end of the input bytes if they have no further quotation mark, backslash or control byte.
     #[inline(always)]
     fn in_string(self, bytes: &[u8]) -> Spot
         requires within { self.count < length bytes.now }
@@ -85,7 +85,8 @@ impl Spot {
         }
     }
 
-    /// Returns the position after the next byte of a value, if the current position is not inside a string.
+    /// Returns the position after the next byte of a value, which is not inside a string. Returns `self` if the parser
+    /// must read the byte separately.
     #[inline(always)]
     fn outside(self, bytes: &[u8]) -> Spot
         requires within { self.count < length bytes.now }
@@ -107,8 +108,8 @@ impl Spot {
         }
     }
 
-    /// Returns the position after `byte`, if the current position is not inside a string. The result depends on whether
-    /// `byte` is a quotation mark, a bracket, a blank or another byte.
+    /// Returns the position after `byte`, which is not inside a string. Returns `self` if the parser must read the byte
+    /// separately. The result depends on whether `byte` is a quotation mark, a bracket, a blank or another byte.
     #[inline(always)]
     fn past_sign(self, bytes: &[u8], byte: u8) -> Spot
         requires within { self.count < length bytes.now }
@@ -139,8 +140,8 @@ impl Spot {
         }
     }
 
-    /// Returns the position after an opening bracket, or the position `self` before the bracket if `MAX_NESTING`
-    /// brackets are open.
+    /// Returns the position after an opening bracket. If `MAX_NESTING` brackets are open, the call returns `self`, the
+    /// position before the bracket.
     #[inline(always)]
     fn opened(self, bytes: &[u8]) -> Spot
         requires within { self.count < length bytes.now }
@@ -161,8 +162,8 @@ impl Spot {
         }
     }
 
-    /// Returns the position after a closing bracket, or the position `self` before the bracket if the bracket closes
-    /// the complete JSON value.
+    /// Returns the position after a closing bracket. If the bracket ends the JSON value, the call returns `self`, the
+    /// position before the bracket.
     #[inline(always)]
     fn closed(self, bytes: &[u8]) -> Spot
         requires within { self.count < length bytes.now }
@@ -184,7 +185,8 @@ impl Spot {
     }
 }
 
-/// Whether a byte that is not in a string is neither a quotation mark, nor a bracket, nor white space.
+/// Whether a byte is from `#` to `Z` or from `a` to `z`. These ranges have no quotation mark, no bracket and no white
+/// space.
 #[inline(always)]
 fn is_solid(byte: u8) -> bool
     ensures { result ≡ (nat_le 35 byte && nat_le byte 90 || nat_le 97 byte && nat_le byte 122) }
@@ -216,7 +218,7 @@ fn is_closing(byte: u8) -> bool
     byte == b'}' || byte == b']'
 }
 
-/// Returns the position after the first bytes of the input that can be copied as a part of the current value.
+/// Returns the position up to which the parser can copy the input bytes to the current value.
 #[inline(always)]
 fn spot_after(bytes: &[u8], quoted: bool, nesting: u8) -> Spot
     ensures within { result.count ≤ length bytes.now }
@@ -238,8 +240,8 @@ fn spot_after(bytes: &[u8], quoted: bool, nesting: u8) -> Spot
 }
 
 impl Reading {
-    /// Copies bytes of the input that belong to the current value, up to the byte that completes the value. Returns
-    /// the number of copied bytes.
+    /// Copies input bytes that belong to the current value, and stops at the latest before the byte that completes the
+    /// value. Returns the number of copied bytes.
     #[inline(always)]
     pub(crate) fn copy(&mut self, bytes: &[u8]) -> Result<usize, AllocError>
         requires { (state_of self.old).found ≡ Nothing }

@@ -1,5 +1,5 @@
-//! Reports each complete document in the form that the caller requested: the document itself, an envelope with the
-//! document, or the document from an envelope.
+//! Reports each complete document in the form that the caller requested: unchanged, wrapped in an envelope, or
+//! unwrapped from an envelope.
 ghost use Rattle.std.specs.Prelude.{◌≡◌, OnOk, Some};
 ghost use Rattle.response_parser.specs.Stored.{state_of};
 ghost use Rattle.response_parser.specs.Values.{document_found, found_as};

@@ -1,4 +1,4 @@
-//! Passes on bytes in the strings of long documents without storing the bytes.
+//! Lets the caller write string bytes of a long document directly, without storing the bytes in the parser.
 ghost use Rattle.std.specs.Prelude.{◌≡◌, ◌<◌, ◌≤◌, ◌==◌, [], false, length, nat_eq, take, true, IfOk, OnOk};
 ghost use Rattle.std.specs.List.{list_all, starts_with};
 ghost use Rattle.doc_envelope.specs.Stored.{made_of};
@@ -13,15 +13,15 @@ use doc_envelope::is_log;
 use json_values::plain_end;
 use std::alloc::{AllocError, Global};
 
-/// The minimum number of bytes of a document that the parser stores before it passes bytes on without storing them.
+/// A document is long if the parser has stored at least `LONG` of its bytes.
 const LONG: usize = 262_144;
 
-/// The parser builds the beginning of a document's output only if at least `RUN` consecutive bytes of a string follow
-/// in the current read.
+/// The parser builds the beginning of a document's output only if at least `RUN` bytes of a string come next in the
+/// current read.
 const RUN: usize = 1_024;
 
-/// After an attempt to build the beginning of a document's output from n stored bytes, the parser reads at least n / 4
-/// further bytes before the next attempt.
+/// The parser reads at least n / `SHARE` bytes between two attempts to build the beginning of a document's output. The
+/// number n is the number of stored bytes at the earlier attempt.
 const SHARE: u64 = 4;
 
 /// The beginning of a long document's output, which the caller writes before the document ends. A `Front` is empty if
@@ -29,10 +29,9 @@ const SHARE: u64 = 4;
 #[derive(Drop)]
 pub struct Front {
     text: Vec<u8>,
-    /// The number of bytes of the current document that were stored when the text of the `Front` was built.
+    /// The number of bytes of the current document that the parser had stored when it built the text of the `Front`.
     length: usize,
-    /// The number of input bytes that the parser must have read before it may try again to build the text of the
-    /// `Front`.
+    /// The parser may build the text of the `Front` again when it has read at least this number of input bytes.
     next: u64,
 }
 
@@ -62,9 +61,9 @@ impl Front {
         self.text.clear();
     }
 
-    /// Reads consecutive bytes of a string in a long document without storing the bytes, and returns their number.
-    /// Returns 0 if the next bytes must be read with `Reading::take_in`. After each call, the caller must write the
-    /// bytes that `pass` added to the `Front`, and then the bytes that `pass` read.
+    /// Reads consecutive string bytes of a long document, does not store the bytes, and returns their number. Returns 0
+    /// if the next bytes must be read with `Reading::take_in`. After each call, the caller must first write the bytes
+    /// that were added to the `Front`, and then the bytes that `pass` read.
     pub fn pass(&mut self, reading: &mut Reading, bytes: &[u8]) -> Result<usize, AllocError>
         ensures within { IfOk result (λ count. count ≤ length bytes.now) }
         ensures none { IfOk result (λ count. count ≡ 0 → (state_of reading.new ≡ state_of reading.old)
@@ -87,9 +86,9 @@ impl Front {
         Ok(count)
     }
 
-    /// Whether the next `count` bytes of a string may be passed on without being stored. If the `Front` is empty, or
-    /// the parser has stored more bytes since the `Front` was built, the call builds the text of the `Front`. The call
-    /// builds the text of the `Front` only within the limits of `RUN` and `SHARE`.
+    /// Whether the parser may pass on the next `count` string bytes without storing the bytes. The call builds the text
+    /// of the `Front` if the `Front` is empty, or if the parser has stored more bytes since the last build. The limits
+    /// `RUN` and `SHARE` may forbid a build.
     fn may_pass(&mut self, reading: &mut Reading, count: usize) -> Result<bool, AllocError>
         ensures same { OnOk result (state_of reading.new ≡ state_of reading.old) }
         ensures none { IfOk result (λ ok. ok ≡ false → (front_of self.new ≡ front_of self.old)
@@ -126,7 +125,8 @@ impl Front {
 }
 
 impl Reading {
-    /// Whether the current value is a long document in which string bytes may be passed on without being stored.
+    /// Whether the current value is a document that is so long that the parser may pass on string bytes without storing
+    /// them.
     fn is_long(&self, name: Name) -> bool
         ensures { result ≡ true → IsLong name (state_of self.now) }
     {
@@ -140,8 +140,8 @@ impl Reading {
         }
     }
 
-    /// Builds the beginning of the current document's output. Returns `true` only if string bytes that are passed on
-    /// without being stored may follow the stored text.
+    /// Builds the beginning of the current document's output. If the call returns `true`, the parser may pass on string
+    /// bytes after the stored text without storing these bytes.
     fn make_front(&mut self) -> Result<bool, AllocError>
         ensures same { OnOk result (state_of self.new ≡ state_of self.old) }
         ensures starts { IfOk result
@@ -155,8 +155,8 @@ impl Reading {
     }
 }
 
-/// Returns the number of bytes before the first quotation mark, backslash or control character. Returns 0 if a byte
-/// before the first quotation mark, backslash or control character is not printable ASCII.
+/// Returns the number of bytes before the first quotation mark, backslash or control character. Returns 0 if one of the
+/// counted bytes is not printable ASCII.
 fn run_length(bytes: &[u8]) -> usize
     ensures within { result ≤ length bytes.now }
     ensures run { IsRun (take result bytes.now) }

@@ -62,8 +62,8 @@ impl Reading {
         Ok(())
     }
 
-    /// Reads the first byte of a line of a script's output, or of input that the parser rejects because it opens
-    /// neither a list nor an object.
+    /// Reads a byte that opens neither a list nor an object. Either a line of a script's output begins with this byte,
+    /// or the parser rejects the input.
     fn at_begin(&mut self, byte: u8) -> Result<(), AllocError>
         ensures { OnOk result (state_of self.new ≡ at_begin (state_of self.old) byte) }
     {
@@ -107,7 +107,8 @@ impl Reading {
         }
     }
 
-    /// Ends a line. After a line before the first response, the parser returns to the place at which it began.
+    /// Ends a line. The parser continues at `Start` if the input must still have a response, and otherwise at
+    /// `Between`.
     fn end_line(&mut self)
         ensures { state_of self.new ≡ line_ended (state_of self.old) }
     {
@@ -244,7 +245,7 @@ impl Reading {
         Ok(())
     }
 
-    /// Reports a complete revision of a `change` line, and continues at the place `place` in the grammar.
+    /// Reports a complete revision of a `change` line, and sets the parser's place to `place`.
     fn end_rev(&mut self, place: Place) -> Result<(), AllocError>
         ensures { OnOk result (state_of self.new ≡ rev_ended place (state_of self.old)) }
     {

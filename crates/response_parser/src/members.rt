@@ -145,8 +145,8 @@ impl Reading {
         )
     }
 
-    /// Begins to read an object as one value, after the object's first name. Inserts the object's opening brace before
-    /// the first name in the stored text.
+    /// Begins to read an object as one value, after the name of the object's first member. Inserts the object's opening
+    /// brace before the first name in the stored text.
     fn begin_plain(&mut self, name: Name) -> Result<(), AllocError>
         ensures { OnOk result (state_of self.new ≡ plain_begun name (state_of self.old)) }
     {
@@ -172,7 +172,8 @@ impl Reading {
         }
     }
 
-    /// Whether the current member's value may be the entry of a document, whose id is then the member's name.
+    /// Whether the current member may be a document's entry in a `_revs_diff` response. The name of an entry is the
+    /// document's id.
     fn is_ahead(&self) -> bool
         ensures { result ≡ is_ahead (state_of self.now) }
     {
@@ -180,8 +181,7 @@ impl Reading {
     }
 
     /// Reads a byte before the value of a member that may be a document's entry in a `_revs_diff` response. If the
-    /// member's value is an object, the member is a document's entry in a `_revs_diff` response, and its name is the
-    /// document's id.
+    /// member's value is an object, the member is an entry, and its name is the document's id.
     pub(crate) fn at_ahead(&mut self, name: Name, byte: u8) -> Result<(), AllocError>
         ensures { OnOk result (state_of self.new ≡ at_ahead name (state_of self.old) byte) }
     {
@@ -214,8 +214,8 @@ impl Reading {
         }
     }
 
-    /// Sets the parser's place before a member's value, according to the member's kind. Rejects a `Foreign` member, and
-    /// a member `changes` that no `id` precedes.
+    /// Sets the parser's place before a member's value, according to the member's kind. Rejects a member of the kind
+    /// `Foreign`, and a member `changes` without an `id` before it.
     fn begin_as(&mut self, name: Name)
         ensures { state_of self.new ≡ begun_as name (state_of self.old) }
     {
@@ -226,8 +226,7 @@ impl Reading {
         }
     }
 
-    /// Sets the parser's place before a member's value, and records facts about the member's object that follow from
-    /// the member's kind.
+    /// Sets the parser's place before a member's value, and updates the flags that depend on the member's kind.
     fn begin_value(&mut self, name: Name)
         ensures { state_of self.new ≡ value_begun name (state_of self.old) }
     {
@@ -265,14 +264,14 @@ fn value_place(name: Name) -> Place
     }
 }
 
-/// Whether a member's kind keeps the parser from skipping the object that has the member.
+/// Whether a member of the given kind makes the parser accept an object, instead of skipping or rejecting the object.
 fn is_known(name: Name) -> bool
     ensures { result ≡ is_known name }
 {
     !matches!(name, Name::Other | Name::Id | Name::Reason)
 }
 
-/// Whether the parser reads an object as one value, given the kind of the object's first member.
+/// Whether the parser reads an object as one value if the object's first member has the given kind.
 pub(crate) fn is_plain(name: Name) -> bool
     ensures { result ≡ is_plain name }
 {
@@ -286,8 +285,7 @@ fn is_id(name: Name) -> bool
     matches!(name, Name::Id)
 }
 
-/// Whether a member's value is a document's list of revisions or the outermost object's list `docs`, given the member's
-/// kind.
+/// Whether a member of the given kind is a list of a document's revisions, or the outermost object's list `docs`.
 fn is_inner(name: Name) -> bool
     ensures { result ≡ is_inner name }
 {

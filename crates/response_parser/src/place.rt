@@ -27,8 +27,8 @@ pub enum Wanted {
 pub enum Name {
     /// A member `_id` that comes first in an object, which is therefore a document or a log.
     Plain,
-    /// A first member other than `_id` in an item of the outermost object's list `docs`. An item of the list `docs` is
-    /// a document if it has a member `_id`.
+    /// The first member of an item in the outermost object's list `docs`, if the member is not `_id`. An item of the
+    /// list `docs` is a document if it has a member `_id`.
     Item,
     /// A member `ok` or `doc`, whose value is a document if it is an object.
     Document,
@@ -38,18 +38,19 @@ pub enum Name {
     List,
     /// The member `docs` of an outermost object, whose value is a list of objects.
     Docs,
-    /// A member `changes`, whose value is the list of revisions of a document whose id precedes the list in the same
-    /// object.
+    /// A member `changes`, whose value is a list of a document's revisions. The document's `id` must precede `changes`
+    /// in the same object.
     Changes,
     /// A member `rev` in a document's list of revisions.
     Rev,
     /// A member `missing` in a `_revs_diff` response, whose value is a list of missing revisions.
     Missing,
-    /// A member, such as `missing` or `error`, that a response has instead of a document. The parser skips and counts a
-    /// value that a response has instead of a document.
+    /// A member, such as `missing` or `error`, that replaces a document in a response. The parser skips the member, and
+    /// counts it as skipped.
     Passed,
-    /// A member `last_seq` or `db_info`, because of which the parser does not count an object without documents as
-    /// skipped. The member `last_seq` ends a changes feed, and `db_info` belongs to the first object of a PouchDB dump.
+    /// A member `last_seq` or `db_info`. The parser does not count an object with this member as skipped, even if the
+    /// object has no document. The member `last_seq` ends a changes feed, and `db_info` belongs to the first object of
+    /// a PouchDB dump.
     Last,
     /// A member `seq` that comes first in an outermost object. An outermost object with only the member `seq` belongs
     /// to a PouchDB dump.
@@ -60,7 +61,7 @@ pub enum Name {
     Reason,
     /// A member whose value the parser ignores.
     Other,
-    /// A member that the parser rejects with `NoDocument`, because the member's object cannot be a document.
+    /// A member that shows that its object is not a document. The parser rejects the member with `NoDocument`.
     Foreign,
 }
 
@@ -158,12 +159,11 @@ pub enum RevPlace {
 /// The parser's place in a response, which says what the next byte belongs to.
 #[derive(Clone, Copy, Debug, PartialEq, Eq)]
 pub enum Place {
-    /// The parser has not yet found the first byte of a response, and the input must have a response.
+    /// No response has begun yet, and the input must not end here.
     Start,
-    /// The parser has not yet found the first byte of a response, and the input may be empty.
+    /// No response has begun yet, and the input may end here.
     Begin,
-    /// The next byte is one of the first bytes of input that may have a known format other than a response, such as
-    /// HTML.
+    /// The input is not a response, but its first bytes may belong to another known format, such as HTML.
     Sign,
     /// The next byte follows a response.
     Between,
@@ -185,7 +185,7 @@ pub enum Place {
     KeyEscape,
     /// The next byte follows a member's name.
     Colon(Name),
-    /// The next byte follows a colon, and may begin a document's entry in a `_revs_diff` response.
+    /// The next byte follows a colon. The member's value may be a document's entry in a `_revs_diff` response.
     Ahead(Name),
     /// The next byte must be white space or the opening bracket of a list of objects.
     List,

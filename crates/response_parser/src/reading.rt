@@ -20,28 +20,28 @@ pub struct Reading {
     pub(crate) some: bool,
     /// The number of open lists and objects.
     pub(crate) depth: u8,
-    /// Whether the innermost open object has a member whose name the parser knows.
+    /// Whether the parser has read a member that makes it accept the innermost open object.
     pub(crate) known: bool,
     /// Whether the innermost open object has a member with a document id.
     pub(crate) named: bool,
     /// Whether the current member is the first member of its object.
     pub(crate) first: bool,
-    /// Whether the innermost open list is a document's list of revisions, or the list `docs` of an outermost object.
+    /// Whether the parser is in a list of a document's revisions, or in the list `docs` of an outermost object.
     pub(crate) inner: bool,
     /// Whether the current response is a response of `_revs_diff`.
     pub(crate) diff: bool,
-    /// Whether the parser has read a member `error` with a string, and has since neither entered nor left a list or
-    /// object that it searches.
+    /// Whether the parser has read a member `error` whose value is a string. When the parser opens or closes a list or
+    /// an object that it searches, the flag becomes false.
     pub(crate) failed: bool,
     /// The number of brackets of the current value that are open.
     pub(crate) nesting: u8,
-    /// The part of the current name or value in the input that the parser has stored.
+    /// The stored part of the current name or value.
     pub(crate) text: Vec<u8>,
     /// The text of CouchDB's last error in the input.
     pub(crate) error: Vec<u8>,
     pub(crate) found: Found,
-    /// The number of skipped entries: objects without documents, values (such as errors) instead of documents, and
-    /// script output lines that begin with `refused`.
+    /// The number of skipped entries. An entry is an object without a document, an error or another value instead of a
+    /// document, or a `refused` line of a script's output.
     pub(crate) passed: u64,
     /// The number of bytes that the parser has read.
     pub(crate) taken: u64,
@@ -85,7 +85,7 @@ impl Reading {
         ensures state { IfOk result (λ count. state_of self.new ≡ after (state_of self.old) (take count bytes.now)) }
         ensures pieces { IfOk result
             (λ count. pieces (state_of self.old) (take count bytes.now) ≡ given (state_of self.new)) }
-        // Only the last byte that this call read may complete an item.
+        // Of the bytes that this call read, only the last byte may complete an item.
         ensures first { IfOk result (λ count. pieces (state_of self.old) (take (count - 1) bytes.now) ≡ []) }
         ensures all { IfOk result (λ count. stops (state_of self.new) ≡ false → count ≡ length bytes.now) }
     {
@@ -163,7 +163,7 @@ impl Reading {
         matches!(self.place, Place::Line(_))
     }
 
-    /// Returns true if the last byte completed an item, and also if the parser has rejected a byte.
+    /// Whether the last byte completed an item, or the parser has rejected a byte.
     #[inline(always)]
     fn stops(&self) -> bool
         ensures { result ≡ stops (state_of self.now) }
@@ -181,7 +181,7 @@ impl Reading {
         self.advance(byte)
     }
 
-    /// Counts a byte as read, unless the parser rejected an earlier byte.
+    /// Clears the found item, and counts the next byte as read unless the parser has already rejected a byte.
     #[inline(always)]
     fn begin(&mut self)
         ensures { state_of self.new ≡ begun (state_of self.old) }

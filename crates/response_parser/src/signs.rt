@@ -10,7 +10,7 @@ use crate::spelling::is;
 use std::alloc::AllocError;
 
 impl Reading {
-    /// Reads the first byte of input that may have a known format other than a response.
+    /// Reads the first byte of input that is not a response, but may have another known format.
     pub(crate) fn begin_sign(&mut self, byte: u8) -> Result<(), AllocError>
         ensures { OnOk result (state_of self.new ≡ sign_begun (state_of self.old) byte) }
     {
@@ -18,8 +18,7 @@ impl Reading {
         self.in_sign(byte)
     }
 
-    /// Reads a further byte at the beginning of the input, as long as the input may have a known format other than a
-    /// response.
+    /// Reads a further byte of input that is not a response, but may have another known format.
     pub(crate) fn in_sign(&mut self, byte: u8) -> Result<(), AllocError>
         ensures { OnOk result (state_of self.new ≡ in_sign (state_of self.old) byte) }
     {
@@ -34,7 +33,7 @@ impl Reading {
     }
 }
 
-/// Whether a text is a proper prefix of the first bytes by which the parser recognizes a known format, such as HTML.
+/// Whether a text is a proper prefix of the bytes that identify a known format, such as `HTTP/`.
 fn begins_sign(text: &[u8]) -> bool
     ensures { result ≡ begins_sign text.now }
 {

@@ -40,9 +40,9 @@ fn is_either(text: &[u8], one: &[u8], other: &[u8]) -> bool
 }
 
 /// Returns the kind of a JSON member whose name, with its quotation marks, is `text`. `first` says whether the member
-/// is the first member of its object. `inner` says whether the member is in a document's list of revisions, or in an
-/// item of the outermost object's list `docs`. `diff` says whether the input is a response of `_revs_diff`. `depth` is
-/// the number of lists and objects that are open.
+/// is the first member of its object. `inner` is true if the member is in a list of a document's revisions, or in an
+/// item of the top-level list `docs`. `diff` says whether the input is a response of `_revs_diff`. `depth` is the
+/// number of lists and objects that are open.
 #[tactic(auto, unfolding(crate::specs::Names::name_of))]
 pub(crate) fn name_of(
     wanted: Wanted,
@@ -116,8 +116,8 @@ fn name_of_documents(strict: bool, first: bool, item: bool, outermost: bool, tex
     }
 }
 
-/// Returns the kind of a JSON member `_id`, for a caller that requested documents. A member `_id` that is not the first
-/// member of its object is skipped, or rejected if `strict` is true.
+/// Returns the kind of a JSON member `_id`, for a caller that requested documents. If `_id` is not the first member of
+/// its object, the parser skips the member, or rejects it if `strict` is true.
 #[inline(always)]
 fn name_of_id(strict: bool, first: bool) -> Name
     ensures { result ≡ id_name strict first }
@@ -131,8 +131,8 @@ fn name_of_id(strict: bool, first: bool) -> Name
     }
 }
 
-/// Returns the kind of an outermost object's member with the name `text`, which is `Last` or `Seq` for members of a
-/// PouchDB dump, and otherwise `Other`.
+/// Returns the kind of an outermost object's member with the name `text`. The kind is `Last` for `db_info`, `Seq` for a
+/// first member `seq` (both are members of PouchDB dumps), and `Other` for every other member.
 fn name_of_outermost(first: bool, text: &[u8]) -> Name
     ensures { result ≡ outermost_name first text.now }
 {

@@ -236,8 +236,8 @@ fn first_of(text: &[u8]) -> u8
     if text.is_empty() { 0 } else { text[0] }
 }
 
-/// Returns the kind of item that the parser reports for a member's value, given the member's kind `name` and the
-/// value's first byte `first`.
+/// Returns the kind of item that the parser reports for a member's value. The result depends on the member's kind
+/// `name` and on the value's first byte `first`.
 fn found_of(name: Name, first: u8) -> Found
     ensures { result ≡ found_of name first }
 {
@@ -249,7 +249,7 @@ fn found_of(name: Name, first: u8) -> Found
     }
 }
 
-/// Whether a member's value is one that a response has instead of a document, for example an error.
+/// Whether the parser counts a member's value as skipped, because the value, such as an error, replaces a document.
 fn passes(name: Name, first: u8) -> bool
     ensures { result ≡ passes name first }
 {
@@ -260,8 +260,8 @@ fn passes(name: Name, first: u8) -> bool
     }
 }
 
-/// Returns the reason why the parser rejects a member's value, or `None`. The parser rejects a value that must be a
-/// string and is not a string, and a string that is the `reason` of a CouchDB error.
+/// Returns the reason why the parser rejects a member's value, or `None`. The parser rejects an `id` or a `rev` that is
+/// not a string. The parser also rejects the `reason` of a CouchDB error, if the `reason` is a string.
 fn refusal_of(name: Name, first: u8, failed: bool) -> Option<Refusal>
     ensures { result ≡ refusal_of name first failed }
 {
@@ -272,7 +272,7 @@ fn refusal_of(name: Name, first: u8, failed: bool) -> Option<Refusal>
     }
 }
 
-/// Whether a member is the first member of an item of the list `docs`, and is not `_id`.
+/// Whether a member is the first member of an item in the list `docs`, and has another name than `_id`.
 fn is_item(name: Name) -> bool
     ensures { result ≡ is_item name }
 {

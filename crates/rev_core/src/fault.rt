@@ -18,7 +18,8 @@ pub enum RevFault {
     /// The list of signatures is empty, but an ancestry has at least one revision.
     #[error("an ancestry without revisions")]
     NoIds,
-    /// The number of signatures exceeds the newest generation, so a generation would be below 1.
+    /// The number of signatures exceeds the newest generation, which would give the oldest revision a generation below
+    /// 1.
     #[error("more revisions than generations")]
     StartTooSmall,
     /// The parent of a new revision has the greatest possible generation, 4,294,967,295.

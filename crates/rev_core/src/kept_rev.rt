@@ -18,8 +18,8 @@ pub struct KeptRev {
     form: Form,
 }
 
-// `Drop` is implemented by hand, because each crate that owns a `KeptRev` would have to prove the code of
-// `#[derive(Drop)]` again (docs/DECISIONS.md, "Letting values go").
+// `Drop` is implemented by hand. The code of `#[derive(Drop)]` would be proved again in each crate that owns a
+// `KeptRev` (docs/DECISIONS.md, "Letting values go").
 impl Drop for KeptRev {
     fn drop(self) {
         let KeptRev { form: _ } = self;

@@ -124,8 +124,8 @@ fn value_of(digit: u8) -> u8
     }
 }
 
-/// Formats packed bytes as hexadecimal digits. The result has the high digits of all bytes first, and then the low
-/// digits.
+/// Formats packed bytes as hexadecimal digits. The first 16 digits are the high digits of the bytes, and the last 16
+/// digits are the low digits.
 fn digits_of(bytes: &[u8; ROOM]) -> [u8; DIGITS]
     ensures { result ≡ digits_of bytes.now }
 {

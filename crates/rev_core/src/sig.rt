@@ -83,7 +83,7 @@ impl Sig {
         &self.bytes[..32]
     }
 
-    /// Returns the last 32 of the 64 bytes in which the signature is stored, with zeros after the end of the signature.
+    /// Returns the second half of the 64 bytes that store the signature. Bytes after the end of the signature are zero.
     pub(crate) fn tail(&self) -> &[u8]
         ensures { result.now ≡ drop 32 (padded self.now) }
     {
@@ -105,8 +105,8 @@ impl Sig {
         ]
     }
 
-    /// Creates a signature of `len` bytes from the halves `head` and `tail` of 32 bytes each. The bytes of `head` and
-    /// then of `tail` are the signature followed by zeros.
+    /// Creates a signature of `len` bytes from the halves `head` and `tail` of 32 bytes each. The bytes of `head`,
+    /// followed by those of `tail`, must be the signature and then zeros.
     pub(crate) fn of_halves(head: &[u8], tail: &[u8], len: u8) -> Sig
         requires head { length head.now ≡ 32 }
         requires tail { length tail.now ≡ 32 }

@@ -13,7 +13,7 @@ use std::marker::Model;
 /// The maximum number of bytes of a signature that a `SmallRev` stores without a heap block.
 const MOST_INLINE: usize = 32;
 
-/// The bytes after a signature of at most 32 bytes.
+/// The second half of the 64 bytes of a signature, if the signature has at most 32 bytes.
 const ZEROS: [u8; 32] = [0; 32];
 
 /// A small revision, which takes 40 bytes instead of the 72 bytes of a `Rev`.
@@ -25,8 +25,8 @@ pub struct SmallRev {
     form: Form,
 }
 
-// `Drop` is implemented by hand, because each crate that owns a `SmallRev` would have to prove the code of
-// `#[derive(Drop)]` again (docs/DECISIONS.md, "Letting values go").
+// `Drop` is implemented by hand. The code of `#[derive(Drop)]` would be proved again in each crate that owns a
+// `SmallRev` (docs/DECISIONS.md, "Letting values go").
 impl Drop for SmallRev {
     fn drop(self) {
         let SmallRev { form: _ } = self;
@@ -123,7 +123,7 @@ impl SmallRev {
         }
     }
 
-    /// Returns 32 bytes, which are the signature's bytes after the first 32, followed by zeros.
+    /// Returns the 32 bytes that follow the first 32 bytes of the signature, with zeros after the end of the signature.
     fn tail(&self) -> &[u8]
         ensures { result.now ≡ drop 32 (padded self.now.sig) }
     {
@@ -219,8 +219,7 @@ impl SmallRev {
 }
 
 /// Copies a revision whose signature is stored in a heap block.
-// The function `copy_long` is not inlined, because copying other revisions takes more instructions if `copy_long` is
-// inlined.
+// If `copy_long` were inlined, copying other revisions would take more instructions.
 #[inline(never)]
 fn copy_long(alloc: Global, generation: u32, sig: &Sig) -> Result<SmallRev, AllocError>
     requires { 1 ≤ generation }

@@ -8,8 +8,8 @@ use crate::words::front_of;
 use rev_core::SmallRev;
 use std::cmp::Ordering;
 
-/// A leaf with its sort key: the deleted flag, the generation, and the first eight bytes of the signature. The sort key
-/// usually decides the order of two leaves, so sorting rarely reads their revisions.
+/// A leaf with its sort key: the deleted flag, the generation, and the first eight bytes of the signature. Sorting
+/// rarely reads the leaves' revisions, because two leaves usually have different sort keys.
 #[derive(Clone, Copy)]
 pub(crate) struct Leaf<'a> {
     pub(crate) deleted: bool,

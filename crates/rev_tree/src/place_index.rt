@@ -11,14 +11,14 @@ use std::alloc::{AllocError, Global};
 use std::marker::Model;
 
 /// The keys of the table are hashes of revisions, because hashes need less memory than revisions. If several revisions
-/// share a hash, the table has the position of only one of these revisions, and a lookup of another revision with this
-/// hash scans the nodes. In practice, two revisions share a hash only if someone constructs them to do so.
+/// share a hash, the table has the position of only one of these revisions. A lookup of another revision with the
+/// shared hash scans the nodes. In practice, two revisions share a hash only if someone constructs them to do so.
 ///
 /// The table of hashes takes no memory for a tree with at most `MOST_WALKED` nodes. The table also takes no memory if
 /// each node is one generation below the previous node of the tree.
 ///
-/// A `Places` also owns the comparison tree (`Tournament`), which finds the winner among the leaves. If the table of
-/// hashes takes no memory, the comparison tree takes no memory.
+/// A `Places` also owns a `Tournament`, the comparison tree that finds the winner among the leaves. If the table of
+/// hashes is not allocated, the comparison tree is not allocated either.
 #[derive(Drop)]
 pub(crate) struct Places {
     index: Option<Box<Index>>,

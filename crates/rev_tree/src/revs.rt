@@ -10,7 +10,7 @@ use std::slice;
 
 /// A list of revisions. A list of one revision stores the revision inline, without allocating.
 ///
-/// Most documents have one leaf, and most requests name one revision.
+/// Most lists have one revision, because most documents have one leaf and most requests name one revision.
 #[derive(Debug)]
 pub struct Revs {
     kept: Kept,

@@ -11,10 +11,11 @@ use std::alloc::Global;
 ///
 /// Comparison `i` is between the leaves at the indexes `2 * i` and `2 * i + 1`. Comparison 1 gives the winner of all
 /// leaves. The winner of comparison `i` is the leaf at index `i` of the comparison tree. If node `n` was entered and is
-/// a leaf, its index in the comparison tree is `winners.len() + n`.
+/// a leaf, the leaf has the index `winners.len() + n` in the comparison tree.
 ///
-/// The winner of a comparison is stored as its node's index, counted from 1, or as 0 if there is no leaf to compare. If
-/// the stored winner of a comparison is no longer a leaf, its index stays stored until the comparison is made again.
+/// The winner of a comparison is stored as the index of the winner's node, counted from 1. If a comparison has no leaf,
+/// the number 0 is stored. When the stored winner of a comparison gets a child, the winner's index stays stored until
+/// the comparison is repeated.
 #[derive(Drop)]
 pub(crate) struct Tournament {
     winners: Vec<u32>,
@@ -85,10 +86,9 @@ impl Tournament {
         true
     }
 
-    /// Makes space for all nodes in the comparison tree. If the list of winners has fewer than two elements or is
-    /// shorter than the list of nodes, the call starts an empty comparison tree. The new list of winners has two
-    /// elements per node, and two more. Returns true if the comparison tree has space for all nodes, and false if an
-    /// allocation fails.
+    /// Makes space for all nodes in the comparison tree. The call starts an empty comparison tree if the list of
+    /// winners has fewer than two elements or is shorter than the list of nodes. The new list has `2 * nodes.len() + 2`
+    /// elements. Returns true if the comparison tree has space for all nodes, and false if an allocation fails.
     fn make_matches(&mut self, nodes: &[Node]) -> bool
         requires few { length nodes.now < 2 ^ 32 }
         requires played { IsPlayed nodes.now self.old.winners.items self.old.entered 0 }
@@ -108,7 +108,7 @@ impl Tournament {
         true
     }
 
-    /// Makes all comparisons again that involve the node at index `place`, from the node's first comparison up to
+    /// Repeats all comparisons that involve the node at index `place`, from the node's first comparison up to
     /// comparison 1.
     fn replay(&mut self, nodes: &[Node], place: usize)
         requires few { length nodes.now < 2 ^ 32 }
@@ -126,7 +126,7 @@ impl Tournament {
         }
     }
 
-    /// Makes the comparison with index `at` again.
+    /// Repeats the comparison with index `at`.
     fn play(&mut self, nodes: &[Node], at: usize)
         requires few { length nodes.now < 2 ^ 32 }
         requires between { (0 < at) × (at < length self.old.winners.items) }
@@ -159,8 +159,8 @@ impl Tournament {
     }
 }
 
-/// Returns the winning one of two leaves. A leaf is given as its node's index, counted from 1, and 0 means that a leaf
-/// is missing.
+/// Compares two leaves, and returns the winner. Each leaf is given as the index of its node, counted from 1. The number
+/// 0 means that a leaf is missing.
 fn better(nodes: &[Node], one: u32, other: u32) -> u32
     requires one { one ≤ length nodes.now }
     requires other { other ≤ length nodes.now }

@@ -17,8 +17,8 @@ impl Nodes {
         requires tree { IsTree (tree_of self.now.items) }
         ensures { IfOk result (λ v. v.items ≡ ancestors_at self.now.items start) }
     {
-        // The resulting list has a revision and its ancestors. The length of the list `revs` is limited by the tree's
-        // number of nodes, and by the generation of the first revision.
+        // The resulting list has a revision and its ancestors. The length of the list is at most the tree's number of
+        // nodes, and at most the generation of the first revision.
         let most = self
             .all()
             .len()
@@ -54,7 +54,7 @@ impl Nodes {
     /// Returns the given leaves that are equal to, or descend from, one of the revisions `revs`. The result keeps the
     /// order of the given leaves.
     ///
-    /// The call stores a result for each visited node, and uses this result for other leaves that descend from the
+    /// The call stores a result for each visited node, and reuses the result for other leaves that descend from the
     /// node.
     pub(crate) fn those_above(
         &self,
@@ -81,8 +81,8 @@ impl Nodes {
         Ok(above)
     }
 
-    /// Creates a table with an optional result for each node: true for the nodes of the given revisions, and no result
-    /// for all other nodes.
+    /// Creates a table with one element for each node. The element is `Some(true)` if the node's revision is one of
+    /// `revs`, and otherwise `None`.
     fn asked(&self, alloc: Global, revs: &[Rev]) -> Result<Vec<Option<bool>>, AllocError>
         ensures { IfOk result (λ v. IsTold self.now.items revs.now v.items) }
     {
@@ -95,8 +95,8 @@ impl Nodes {
         Ok(told)
     }
 
-    /// Whether the revision of the node at index `start`, or an ancestor of that revision, is one of the given
-    /// revisions. In the table `told`, the call stores its result for each node that it visits.
+    /// Whether one of the given revisions is the revision of the node at index `start` or an ancestor of that revision.
+    /// For each visited node, the call stores the result in the table `told`.
     fn is_above(&self, told: &mut Vec<Option<bool>>, start: usize) -> bool
         requires within { start < length self.now.items }
         requires len { length told.old.items ≡ length self.now.items }
@@ -114,8 +114,8 @@ impl Nodes {
         answer
     }
 
-    /// Returns the first stored result on the path from a node to its oldest ancestor, or false if no node on the path
-    /// has a result.
+    /// Follows the path from a node to its oldest ancestor, and returns the first stored result. Returns false if no
+    /// node on the path has a stored result.
     fn first_told(&self, told: &[Option<bool>], start: usize) -> bool
         requires within { start < length self.now.items }
         requires len { length told.now ≡ length self.now.items }
@@ -137,8 +137,8 @@ impl Nodes {
         false
     }
 
-    /// Stores a result for each node on the path from index `start` to its oldest ancestor, up to the first node that
-    /// already has a result.
+    /// Follows the path from the node at index `start` to its oldest ancestor, and stores the result `answer` for each
+    /// node. Stops at the first node that already has a result.
     fn tell(&self, told: &mut Vec<Option<bool>>, start: usize, answer: bool)
         requires within { start < length self.now.items }
         requires len { length told.old.items ≡ length self.now.items }

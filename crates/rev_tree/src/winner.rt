@@ -12,13 +12,13 @@ use crate::nodes::Nodes;
 use std::cmp::Ordering;
 
 impl Nodes {
-    /// Returns the index of the winner's node after an ancestry was inserted. The argument `before` is the index of the
-    /// previous winner's node, and `head` is the index of the node of the ancestry's head.
+    /// Finds the winner after an ancestry was inserted, and returns the index of the winner's node. The argument
+    /// `before` is the index of the previous winner's node. The argument `head` is the index of the node for the
+    /// ancestry's newest revision.
     ///
-    /// If the ancestry's head is a leaf and goes before the previous winner in the order of leaves, the head is the
-    /// winner. If the ancestry's head is not the winner, and the previous winner is still a leaf, the previous winner
-    /// stays the winner. If neither the ancestry's head nor the previous winner is the winner, the call looks for the
-    /// winner among all leaves.
+    /// If the ancestry's head is a leaf and wins against the previous winner, the head is the new winner. If the head
+    /// does not win and the previous winner is still a leaf, the previous winner stays the winner. If neither the head
+    /// nor the previous winner is known to be the winner, the call searches all leaves.
     pub(crate) fn winner_after(&mut self, before: usize, head: usize) -> usize
         requires before { before < length self.old.items }
         requires head { head < length self.old.items }
@@ -36,8 +36,8 @@ impl Nodes {
         }
     }
 
-    /// Returns the index of the winner's node if the winner is known to be the ancestry's head or the previous winner,
-    /// and otherwise `None`.
+    /// Looks for the winner among only two candidates: the ancestry's head and the previous winner. Returns the index
+    /// of the winner's node, or `None` if neither candidate is known to be the winner.
     fn head_or_previous(&self, before: usize, head: usize) -> Option<usize>
         requires before { before < length self.now.items }
         requires head { head < length self.now.items }
@@ -98,8 +98,9 @@ impl Nodes {
     }
 }
 
-/// Whether a leaf goes before the best leaf found so far, or no best leaf was found yet. Live leaves go before deleted
-/// leaves. Among live leaves, and among deleted leaves, greater generations go first, and then greater signatures.
+/// Whether a leaf wins against the best leaf found so far. Returns true if no best leaf was found yet. A live leaf wins
+/// against a deleted leaf. If both leaves are live, or both are deleted, the greater generation wins. If the
+/// generations are equal, the greater signature wins.
 pub(crate) fn goes_before(leaf: &Node, best: Option<&Node>) -> bool
     ensures { result ≡ goes_before leaf.now (option_copied best.entry) }
 {

@@ -23,8 +23,8 @@ AreLawful s =
     (name : List ℕ) (p : PeerValue) → peer_at s name ≡ Some p
     → Lawful (deny_refuses s.program.deny) p × LawfulDatabase p.db
 
--- The databases of a script are a network whose keys are the names of the databases (`IsNetwork`). For every selection,
--- any database as a replication's source, with its backups, is consistent with any database as the target. Each
+-- The databases of a script are a network whose keys are the names of the databases (`IsNetwork`). For every selection
+-- of documents, each database as a source, with its backups, is consistent with each other database as a target. Each
 -- database satisfies the invariant of peers (`AreLawful`).
 abbrev pub IsConsistent : State → Type 0
 IsConsistent s = IsNetwork (peer_at s) (IsCopyOf s) × AreLawful s

@@ -8,7 +8,7 @@ use Rattle.script_databases.specs.MadeIds.{of_number, at_id, stream, next_id, ne
 place : (n : ℕ) → ((((((4 * (n % 2 ^ 66)) % 2 ^ 68 + 1) % 2 ^ 68 + 1) % 2 ^ 68 + 1) % 2 ^ 68) + 1) % 2 ^ 68 ≡ (4 * (((n % 2 ^ 66 + 1) % 2 ^ 66) % 2 ^ 66)) % 2 ^ 68
 place n = omega arith
 
--- After id number n is generated, the random stream is at the position of the next id.
+-- After the script generates id number n, its random stream is at the position of the next id.
 pub follows : (seed n : ℕ) → (next_id (stream (at_id seed n))).1 ≡ stream (at_id seed (next_place n))
 unfolding fill_bytes stream_of word_bytes
 follows seed n = ap (λ p. stream (record (of_number seed) { word_pos = p })) (place n)

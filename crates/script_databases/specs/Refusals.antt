@@ -88,15 +88,15 @@ target_refusal target.BadBatch = why.BadBatch
 target_refusal target.SamePeer = why.SamePeer
 target_refusal target.Memory = why.Memory
 
--- The low water, if a replication returned the error `Unfinished`. If a replication returned an error other than
--- `Unfinished`, the error with which the script line fails.
+-- How a script line ends if its replication returned an error. After the error `Unfinished`, the value is the low
+-- water. After an error other than `Unfinished`, the value is the error with which the script line fails.
 abbrev pub stop_of : TargetFault → Result ℕ Refusal
 stop_of (target.Unfinished low_water) = Ok low_water
 stop_of fault = Err (target_refusal fault)
 
--- The low water, or the error of a script line, after a replication with a pool of threads returned an error. After the
--- error `Unfinished`, the value is the low water. After an error other than `Unfinished`, the value is the error with
--- which the script line fails.
+-- How a script line ends if its replication with a pool of threads returned an error. After the error `Unfinished`, the
+-- value is the low water. After an error other than `Unfinished`, the value is the error with which the script line
+-- fails.
 abbrev pub run_stop_of : PoolFault → Result ℕ Refusal
 run_stop_of pool.NoWorkers = Err why.NoWorkers
 run_stop_of pool.TooManyWorkers = Err why.TooManyWorkers
@@ -109,7 +109,8 @@ run_stop_of pool.CountFull = Err why.CountFull
 run_stop_of pool.BoardFull = Err why.BoardFull
 run_stop_of pool.Memory = Err why.Memory
 
--- The result of a call, with an error converted by the function `name` to the error of a script line.
+-- The result of a call. If the call failed, the function `name` converts the call's error to the error of a script
+-- line.
 abbrev pub told_as : {A E : Type 0} → (E → Refusal) → Result A E → Result A Refusal
 told_as name (Ok x) = Ok x
 told_as name (Err fault) = Err (name fault)

@@ -85,9 +85,9 @@ unwatched (Ok watched) = Ok watched.report
 unwatched (Err why) = Err why
 
 -- The results that a replication with a pool of threads and a progress board may have, and the script's state after the
--- replication. If a replication with a progress board succeeds, the settled count in its result is at most the read
--- count. If the plan is valid but the board could not be allocated, the result is `Memory`, and the script's state is
--- unchanged.
+-- replication. If a replication with a progress board succeeds, it returns a count of settled documents that is at most
+-- its count of read documents. If the plan is valid but the board could not be allocated, the result is `Memory`, and
+-- the script's state is unchanged.
 abbrev pub ReplicatesWatched : State → List ℕ → List ℕ → PeerValue → PeerValue → Plan → Result Watched PoolFault
     → State → Type 0
 ReplicatesWatched old source target s t plan result new =

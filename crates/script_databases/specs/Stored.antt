@@ -22,7 +22,7 @@ Entries = List (String Global × (Rules × PeerValue))
 abbrev pub peers_of : Entries → FinMap text_cmp PeerValue
 peers_of entries = finmap.from_entries (map (λ e. (string_bytes e.0, e.1.1)) entries)
 
--- The filter and the peer that a stored table has under a name, or `None` if the table does not have the name.
+-- The filter and the peer with the given name in a stored table, or `None` if the table does not have this name.
 abbrev pub entry_at : Entries → List ℕ → Option (Rules × PeerValue)
 entry_at entries name = lookup (λ k. bytes_eq name (string_bytes k)) entries
 
@@ -45,12 +45,12 @@ abbrev pub AllDeny : Option (List ℕ) → Entries → Type 0
 AllDeny deny entries =
     (name : List ℕ) (p : Rules × PeerValue) → entry_at entries name ≡ Some p → deny_of p.0 ≡ deny
 
--- The table `new` has p under the name a, and under each other name what the table `old` has.
+-- The table `new` equals the table `old`, except that `new` has p under the name a.
 abbrev pub IsWithOne : Entries → List ℕ → Rules × PeerValue → Entries → Type 0
 IsWithOne old a p new =
     (name : List ℕ) → entry_at new name ≡ cond (bytes_eq a name) (Some p) (entry_at old name)
 
--- The table `new` has p under the name a and q under the name b, and under each other name what the table `old` has.
+-- The table `new` equals the table `old`, except that `new` has p under the name a, and q under the name b.
 abbrev pub IsWithBoth : Entries → List ℕ → List ℕ → Rules × PeerValue → Rules × PeerValue → Entries → Type 0
 IsWithBoth old a b p q new =
     (name : List ℕ)

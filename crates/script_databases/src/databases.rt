@@ -54,8 +54,8 @@ pub struct Databases {
     backups: Backups,
 }
 
-// `Drop` is implemented by hand because the derived code would be proved again in each crate that owns a `Databases`
-// (docs/DECISIONS.md, "Letting values go").
+// A derived implementation of `Drop` would be proved again in each crate that owns a `Databases` (docs/DECISIONS.md,
+// "Letting values go").
 impl Drop for Databases {
     fn drop(self) {
         let Databases {
@@ -99,8 +99,8 @@ impl Databases {
         })
     }
 
-    /// Has no effect at run time, but gives proofs the invariant of the databases: all databases are consistent with
-    /// each other (docs/PROFILE.md, "Tied databases").
+    /// Provides proofs with the invariant of the databases, and has no effect at run time. The invariant says that all
+    /// databases are consistent with each other (docs/PROFILE.md, "Tied databases").
     pub fn law(&self)
         ensures { IsConsistent self.now }
     {
@@ -229,8 +229,9 @@ impl Databases {
     ///
     /// # Errors
     ///
-    /// The errors are checked in this order: `NoDatabase` (the name is unknown), `BackupExists` (the database has a
-    /// backup of this name), and `IsTarget` (the database has been a replication target).
+    /// If the name `db` is unknown, the error is `NoDatabase`. If the database already has a backup of the name `name`,
+    /// the error is `BackupExists`. If the database has been a replication target, the error is `IsTarget`. The call
+    /// checks for these errors in this order.
     pub fn back_up(&mut self, alloc: Global, db: &str, name: &str) -> Result<u64, Refusal>
         ensures answer { GivesOrMemory result (backed_told (backed_answer self.old db.now name.now)) }
         ensures ok { OnOk result (self.new ≡ backed_at self.old db.now name.now) }
@@ -282,8 +283,8 @@ impl Databases {
         restore_told(peer, answer)
     }
 
-    /// Returns the reason why a backup does not exist: `NoBackup`, or `NoDatabase` if the name of its database is
-    /// unknown.
+    /// Returns the error for a backup that does not exist. If the name of the database is unknown, the error is
+    /// `NoDatabase`, and otherwise `NoBackup`.
     fn missing(&self, db: &str) -> Refusal
         ensures { Err result ≡ put_back_answer (peer_at self.now db.now) None }
     {
@@ -328,8 +329,8 @@ impl Databases {
         outcome
     }
 
-    /// Replicates as `replicate` does, with a new progress board. The call reads the board through the board's only
-    /// viewer after the run has ended.
+    /// Replicates as `replicate` does, with a new progress board. The board has one viewer, with which the call reads
+    /// the board after the run.
     ///
     /// # Errors
     ///

@@ -1,7 +1,7 @@
 //! The databases of a script: peers by name, the program's settings, and generated ids.
 //!
-//! The errors with which a script line may fail are the variants of `Refusal`. This crate does not depend on the format
-//! of a script's lines.
+//! If a script line fails, the error is a variant of the enum `Refusal`. This crate does not depend on the format of a
+//! script's lines.
 #![tactic(auto)]
 
 mod backups;

@@ -6,7 +6,7 @@ use rand_chacha::ChaCha8Rng;
 use rand_core::SeedableRng;
 use uuid::Uuid;
 
-/// The number of ids before the stream of random numbers repeats.
+/// The number of ids after which the stream of random numbers repeats.
 const IDS: u128 = 1 << 66;
 
 /// A generator of ids. The random generator is ChaCha with 8 rounds, and an id takes four 32-bit words. The generator's

@@ -30,7 +30,7 @@ pub fn find_both<'a>(
     (sender, receiver)
 }
 
-/// Takes two peers out of the table, and replaces the two peers by empty peers.
+/// Removes two peers from the table, and stores empty peers under their names.
 pub fn take_out(
     names: &mut Names,
     alloc: Global,

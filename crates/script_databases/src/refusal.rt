@@ -12,11 +12,11 @@ use rev_core::RevFault;
 use std::alloc::{AllocError, AllocFailed};
 
 /// The reason why a line failed (docs/PROFILE.md, "Order of checks"). The method `name` returns the printed name of the
-/// error. Some variants exist only so that each error of a lower crate has a name, and no line is expected to fail with
-/// these variants.
+/// error. Some variants exist only so that each error of a lower crate has a name. No script line is expected to fail
+/// with a variant that only names an error of a lower crate.
 #[derive(Clone, Copy, Debug, PartialEq, Eq)]
 pub enum Refusal {
-    /// A window is already done. No line is expected to fail with `AlreadyDone`.
+    /// A window is already done. No script line is expected to fail with `AlreadyDone`.
     AlreadyDone,
     /// A document has attachments.
     Attachments,
@@ -26,14 +26,15 @@ pub enum Refusal {
     BadCommand,
     /// A revision id has no generation.
     BadGeneration,
-    /// A page of the changes feed with a maximum of 0 rows was requested. No line is expected to fail with `BadLimit`.
+    /// A page of the changes feed with a maximum of 0 rows was requested. No script line is expected to fail with
+    /// `BadLimit`.
     BadLimit,
     /// The line is not a JSON object.
     BadLine,
     /// A timestamp is after the year 9999.
     BadMoment,
-    /// The goal of a page of the changes feed (the sequence up to which the page may extend) is not above the sequence
-    /// at which the page begins. No line is expected to fail with `BadRange`.
+    /// A requested page of the changes feed has a goal (an upper bound) that is not above the page's start. No script
+    /// line is expected to fail with `BadRange`.
     BadRange,
     /// A document's `_revisions` is not an ancestry.
     BadRevisions,
@@ -53,25 +54,25 @@ pub enum Refusal {
     DatabaseExists,
     /// The requested log has no entries.
     EmptyLog,
-    /// A backup of one database was given to restore another database. No line is expected to fail with
+    /// A backup of one database was given to restore another database. No script line is expected to fail with
     /// `ForeignBackup`.
     ForeignBackup,
-    /// A parcel belongs to no window of the session. No line is expected to fail with `ForeignParcel`.
+    /// A parcel belongs to no window of the session. No script line is expected to fail with `ForeignParcel`.
     ForeignParcel,
     /// A number is not a 64-bit integer.
     Fraction,
-    /// A window does not follow the previous window. No line is expected to fail with `Gap`.
+    /// A window does not follow the previous window. No script line is expected to fail with `Gap`.
     Gap,
     /// An edit's parent has the maximum generation.
     GenerationFull,
-    /// The goal of a page of the changes feed (the sequence up to which the page may extend) is above the database's
-    /// update sequence. No line is expected to fail with `GoalAhead`.
+    /// A requested page of the changes feed has a goal (an upper bound) above the database's update sequence. No script
+    /// line is expected to fail with `GoalAhead`.
     GoalAhead,
-    /// A session's goal is below its start. No line is expected to fail with `GoalBelowStart`.
+    /// A session's goal is below its start. No script line is expected to fail with `GoalBelowStart`.
     GoalBelowStart,
-    /// A worker was stopped. No line is expected to fail with `Halted`.
+    /// A worker was stopped. No script line is expected to fail with `Halted`.
     Halted,
-    /// At least one leaf of the source is not covered by the target. No line is expected to fail with `Hole`.
+    /// At least one leaf of the source is not covered by the target. No script line is expected to fail with `Hole`.
     Hole,
     /// The database has been a replication target.
     IsTarget,
@@ -89,8 +90,8 @@ pub enum Refusal {
     NoneChosen,
     /// A document has no revision id.
     NoRev,
-    /// The earlier session that a new session continues does not exist at the target. No line is expected to fail with
-    /// `NoSuchBase`.
+    /// A new session continues an earlier session that does not exist at the target. No script line is expected to fail
+    /// with `NoSuchBase`.
     NoSuchBase,
     /// The database has no document with the given id.
     NoSuchDocument,
@@ -102,13 +103,13 @@ pub enum Refusal {
     NoWorkers,
     /// A document or a body is not an object.
     NotObject,
-    /// The log already has an entry of the same session with a greater recorded sequence than the new entry. No line is
-    /// expected to fail with `Older`.
+    /// The log already has an entry of the same session with a greater recorded sequence than the new entry. No script
+    /// line is expected to fail with `Older`.
     Older,
-    /// A window's life is not the session's life, or a log entry's life is not the database's life. No line is expected
-    /// to fail with `OtherLife`.
+    /// A window has another life than the session, or a log entry has another life than the database. No script line is
+    /// expected to fail with `OtherLife`.
     OtherLife,
-    /// A window ends above the goal. No line is expected to fail with `PastGoal`.
+    /// A window ends above the goal. No script line is expected to fail with `PastGoal`.
     PastGoal,
     /// A document's id begins with `_`, and is not the id of a design document.
     ReservedId,
@@ -120,14 +121,14 @@ pub enum Refusal {
     SamePeer,
     /// The update sequence is at its maximum.
     SeqFull,
-    /// A new database's update sequence is above the maximum. No line is expected to fail with `SeqTooLarge`.
+    /// A new database's update sequence is above the maximum. No script line is expected to fail with `SeqTooLarge`.
     SeqTooLarge,
     /// The target already has the named session.
     SessionExists,
     /// A special member is unknown, or `_deleted` is not a Boolean.
     SpecialMember,
-    /// A session starts above the recorded sequence of the earlier session that it continues. No line is expected to
-    /// fail with `StartAboveBase`.
+    /// A session starts above the recorded sequence of the earlier session that it continues. No script line is
+    /// expected to fail with `StartAboveBase`.
     StartAboveBase,
     /// Only part of a window was settled, because no memory or no update sequence was left.
     Stopped,
@@ -135,9 +136,9 @@ pub enum Refusal {
     TooManyChosen,
     /// The number of workers is above 64.
     TooManyWorkers,
-    /// The fetched documents do not cover a leaf of the window. No line is expected to fail with `Uncovered`.
+    /// The fetched documents do not cover a leaf of the window. No script line is expected to fail with `Uncovered`.
     Uncovered,
-    /// A session has not reached its goal. No line is expected to fail with `Unfinished`.
+    /// A session has not reached its goal. No script line is expected to fail with `Unfinished`.
     Unfinished,
     /// Another database has the given UUID.
     UuidTaken,
@@ -211,8 +212,8 @@ impl Refusal {
         }
     }
 
-    /// Returns `Ok` with the low water if a replication failed with `Unfinished`. For any other error of a replication,
-    /// returns `Err` with the error of the script line.
+    /// Returns the low water as `Ok` if a replication failed with `Unfinished`. Converts any other error of a
+    /// replication to the error of the script line (`Err`).
     pub fn stop_of(fault: TargetFault) -> Result<u64, Refusal>
         ensures { result ≡ stop_of fault }
     {
@@ -222,8 +223,8 @@ impl Refusal {
         }
     }
 
-    /// Returns `Ok` with the low water if a replication with a pool of threads failed with `Unfinished`. For any other
-    /// error of a replication with a pool of threads, returns `Err` with the error of the script line.
+    /// Returns the low water as `Ok` if a replication with a pool of threads failed with `Unfinished`. Converts any
+    /// other error of the pool to the error of the script line (`Err`).
     pub fn run_stop_of(fault: PoolFault) -> Result<u64, Refusal>
         ensures { result ≡ run_stop_of fault }
     {
@@ -282,7 +283,7 @@ impl From<DocFault> for Refusal {
 
 /// Returns the error with which a line fails if the line's revision id is invalid.
 ///
-/// The errors `NoIds` and `StartTooSmall` do not occur for the text of a revision id.
+/// Parsing a revision id never fails with `NoIds` or `StartTooSmall`.
 impl From<RevFault> for Refusal {
     ghost from_gives = { λ fault e. e ≡ rev_refusal fault };
 

@@ -16,14 +16,15 @@ pub record AreChunks (c : Chunks) : Type 0 where
   pub fits : c.count ≤ length c.room.items
   pub few : c.turns ≤ max_reads
 
--- A call that reads a chunk has a result, which says whether a chunk was read. The list `left` has the reader's
--- remaining bytes before the call, and the list `left'` has the remaining bytes after the call.
+-- A call that reads a chunk has a result, which says whether a chunk was read. The reader's remaining bytes are `left`
+-- before the call, and `left'` after the call.
 abbrev pub ReadsChunk : Bool → Option (List ℕ) → Option (List ℕ) → List ℕ → Type 0
 ReadsChunk true left left' chunk = Consumes left left' chunk × (0 < length chunk) × (length chunk ≤ 65536)
 ReadsChunk false left left' chunk = Keeps left left' × IsAtEnd left' × (chunk ≡ [])
 
--- A reader read `turns` times, and no read failed. The reader counts its reads and its failures. During the `turns`
--- reads, the count of reads changes from `reads` to `reads'`, and the count of failures from `failures` to `failures'`.
+-- A reader read `turns` times, and no read failed. The reader counts its reads and its failures. The arguments `reads`
+-- and `failures` are the reader's counts before the `turns` reads, and `reads'` and `failures'` are its counts
+-- afterwards.
 pub record HasRead (turns reads reads' failures failures' : ℕ) : Type 0 where
   pub made : counted reads' 0 ≡ counted reads turns
   pub unfailing : failures' ≡ failures

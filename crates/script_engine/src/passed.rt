@@ -20,7 +20,7 @@ impl Model for Passed {
 pub(crate) enum Pass<'a> {
     /// The start of a stream, before any bytes came through the stream.
     Nothing,
-    /// All earlier bytes of the stream, and the bytes that follow the earlier bytes.
+    /// All earlier bytes of the stream, followed by further bytes of the stream.
     More(&'a Passed, &'a [u8]),
 }
 

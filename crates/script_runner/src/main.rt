@@ -1,7 +1,7 @@
 //! Runs a script of commands from standard input with the default settings, and prints the results.
 //!
 //! The program has no options. The program uses the interpreter of `couch_replicate`, so both programs print the same
-//! results. The program builds faster than `couch_replicate`, because it does not use a library for command lines.
+//! results. The program compiles faster than `couch_replicate`, because it does not use a library for command lines.
 //! docs/PROFILE.md, "Command lines" and "Answers", defines a script.
 #![tactic(auto)]
 

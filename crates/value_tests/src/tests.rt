@@ -4,8 +4,8 @@
 //! contains tests is proved twice. Revision trees and documents are tested by scripts of the program, and in other
 //! crates.
 //!
-//! Each kind of call is a variant of an enum, so the prover handles each kind of call once. The tables are statics, and
-//! the prover does not process the rows of a static.
+//! Each kind of call is a variant of an enum, so the prover handles each kind of call once. The tables are `static`
+//! items. The prover does not process the rows of a `static` item.
 
 // Revisions.
 mod revisions;

@@ -1,5 +1,5 @@
-//! Prepares a document's text for a terminal or a picture. The functions replace each invisible character, and each
-//! character that moves other characters, with its escape `\uXXXX` (docs/PROFILE.md, "Pictures").
+//! Prepares a document's text for a terminal or a picture. The functions replace hidden characters, which are invisible
+//! or move other characters, with escapes of the form `\uXXXX` (docs/PROFILE.md, "Pictures").
 #![tactic(auto)]
 
 mod visible;

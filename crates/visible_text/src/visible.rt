@@ -6,8 +6,8 @@ ghost use Rattle.visible_text.specs.Visible.{is_hidden, unit_of, escape_of, visi
 use std::alloc::AllocError;
 
 /// Whether a character is hidden, that is, is printed only as an escape. Hidden characters are control characters,
-/// format characters, direction marks, line and paragraph separators, characters that Unicode 15 calls
-/// default-ignorable, and U+FFFE and U+FFFF, which XML forbids.
+/// format characters, direction marks, and line and paragraph separators. Characters that Unicode 15 calls
+/// default-ignorable are also hidden. U+FFFE and U+FFFF are hidden because XML forbids these characters.
 #[tactic(auto, unfolding(crate::specs::Visible::is_hidden))]
 pub fn is_hidden(c: char) -> bool
     ensures { result ≡ is_hidden c }
@@ -113,7 +113,7 @@ fn push_quoted_chars(out: &mut String, text: &str) -> Result<(), AllocError>
     Ok(())
 }
 
-/// Appends a text as a JSON string with no hidden character.
+/// Appends a text as a JSON string in which hidden characters are escaped.
 ///
 /// # Errors
 ///

@@ -25,8 +25,8 @@ use Rattle.write_commands.specs.declared.load.Load.{Load}
 
 -- ---- its parameters
 
--- The parameters of `load`: a database name, an optional UUID, and an optional document. If a `load` line has no
--- document, the line only creates the database, unless the database already exists.
+-- The parameters of `load`: a database name, an optional UUID, and an optional document. A `load` line without a
+-- document only creates the database, if the database does not exist yet.
 pub record LoadAsk : Type 0 where
   pub db : List ℕ
   pub uuid : Option ℕ

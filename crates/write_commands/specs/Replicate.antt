@@ -89,13 +89,13 @@ replicate_in d = do
 
 -- ---- its output
 
--- In the output of `replicate`, the text with a report's session id, start sequence and recorded sequence.
+-- The part of the output of `replicate` that has a report's session id, start sequence and recorded sequence.
 abbrev pub session_part : Report → List ℕ
 session_part r =
     codes "session " ++ id_digits r.session.0 ++ codes " from " ++ decimal r.start ++ codes " to " ++ decimal r.recorded
 
--- The part of the output of `replicate` that has the number of checked leaves, and the number of checked leaves that
--- the target lacked.
+-- The part of the output of `replicate` with two numbers: how many leaves were checked, and how many of these the
+-- target lacked.
 abbrev pub checked_part : Report → List ℕ
 checked_part r = codes " checked " ++ decimal r.counts.checked ++ codes " found " ++ decimal r.counts.found
 
@@ -181,8 +181,8 @@ ending_of_watched (Ok watched) = Ok (Shown watched)
 ending_of_watched (Err fault) = ending_of_run (Err fault)
 
 -- How a replication ended, or the error with which it failed. `EndsBy true` describes a replication by one thread.
--- `EndsBy false true` describes a replication by the pool with a board, and `EndsBy false false` a replication by the
--- pool without a board.
+-- `EndsBy false true` describes a replication by the pool with a board. `EndsBy false false` describes a replication by
+-- the pool without a board.
 abbrev pub EndsBy : Bool → Bool → State → List ℕ → List ℕ → PeerValue → PeerValue → Plan → Result Ending Refusal → State
     → Type 0
 EndsBy true progress old source target s t plan ending new =
@@ -201,7 +201,7 @@ replicated_text session ended = do
   Ok (ending_line session ending)
 
 -- The result of a `replicate` line between two existing databases. The fourth argument is the line's selection of
--- documents, or the error with which building the selection failed.
+-- documents, or an error if the selection could not be built.
 abbrev pub ReplicatesChosen : State → ReplicateAsk → PeerValue × PeerValue → Result Choice Refusal → Told → State
     → Type 0
 ReplicatesChosen old ask both (Ok chosen) told new =
@@ -212,8 +212,8 @@ ReplicatesChosen old ask both (Ok chosen) told new =
     × (told ≡ told_of (replicated_text (plan_of old ask.options chosen).session ending))
 ReplicatesChosen old ask both (Err refusal) told new = Refuses refusal (with_session old ask.options) told new
 
--- The result of `replicate` for two existing databases. If the line gives no session id, the line takes the next
--- generated id before the selection is built. Building the selection may run out of memory.
+-- The result of `replicate` for two existing databases. A line without a session id takes the next generated id before
+-- the selection is built. Building the selection may run out of memory.
 abbrev pub ReplicatesBoth : State → ReplicateAsk → PeerValue × PeerValue → Told → State → Type 0
 ReplicatesBoth old ask both told new =
     (chosen : Result Choice Refusal) × GivesOrMemory chosen (choice_given ask.doc_ids)

@@ -79,7 +79,7 @@ both_told text (Ok more) = Ok (text ++ more)
 both_told text (Err name) = Err name
 
 -- The result of `sync`, given the result of the forward direction. The reverse direction follows, unless the forward
--- direction failed. After the forward direction and before the reverse direction, all databases of the script are
+-- direction failed. Between the forward direction and the reverse direction, all databases of the script are
 -- consistent.
 abbrev pub SyncsBack : State → SyncAsk → Told → Told → State → Type 0
 SyncsBack mid ask (Ok text) told new =
@@ -94,9 +94,9 @@ Syncs old ask told new =
 
 -- ---- the guarantee of `sync`, as specified in docs/PROFILE.md, "Tied databases"
 
--- Each direction of a successful `sync` line has the guarantee of a `replicate` line (`IsCovered`). After the forward
--- direction and before the reverse direction of a `sync` line, all databases are consistent. If a `sync` line fails,
--- `MayFail` lists its error for the forward or the reverse direction.
+-- Each direction of a successful `sync` line has the guarantee of a `replicate` line (`IsCovered`). Between the forward
+-- direction and the reverse direction of a `sync` line, all databases are consistent. The error of a failed `sync` line
+-- is an error that `MayFail` lists for the forward or the reverse direction.
 abbrev pub IsMet : State → SyncAsk → Told → Type 0
 IsMet new ask (Ok text) =
     (mid : State) × (first : List ℕ) × (second : List ℕ) × (text ≡ first ++ second) × IsConsistent mid

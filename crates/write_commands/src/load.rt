@@ -67,7 +67,7 @@ impl<'v, 'a> Command<&'v Line<'a>> for Load<'v, 'a> {
     }
 }
 
-/// Performs a `load` line, and prints the result. A line may give a UUID only if it creates a database.
+/// Performs a `load` line, and prints the result. Only a line that creates a database may give a UUID.
 fn load_loud(
     alloc: Global,
     databases: &mut Databases,
@@ -151,7 +151,7 @@ fn open(
 
 /// Stores a document in an existing or a new database.
 ///
-/// The call looks up the database a second time only if the put fails, so a successful put needs only one lookup.
+/// A successful put looks up the database only once. If the put fails, the call looks up the database again.
 fn put(
     alloc: Global,
     databases: &mut Databases,

@@ -35,8 +35,8 @@ pub struct Replicate<'v, 'a> {
     pub options: Options,
 }
 
-/// The parameters of a replication other than its databases and selection. An absent parameter is `None`, but `alone`
-/// and `progress` are false if absent.
+/// The parameters of a replication other than its databases and selection. If the line does not give a parameter, the
+/// parameter is `None` (`false` for `alone` and `progress`).
 #[derive(Clone, Copy, Debug, PartialEq, Eq)]
 pub struct Options {
     /// The id of the new session, which is a UUID as a number.
@@ -63,7 +63,7 @@ enum Ending {
     Done(Report),
     /// The replication reached its goal, and the command read the progress board after the replication's end.
     Shown(Watched),
-    /// The plan's limit stopped the replication, and every window up to the variant's sequence is done.
+    /// The plan's limit stopped the replication. The variant has the low water, up to which all windows are done.
     Stopped(u64),
 }
 
@@ -112,7 +112,7 @@ impl<'v, 'a> Command<&'v Line<'a>> for Replicate<'v, 'a> {
         })
     }
 
-    /// Runs `replicate`. The call may block, unless the line requests a replication with one thread.
+    /// Runs `replicate`. The call can block only if the option `alone` is false.
     fn serve<H: Threads + Wait + Sync>(
         &self,
         rt: &H,
@@ -124,9 +124,9 @@ impl<'v, 'a> Command<&'v Line<'a>> for Replicate<'v, 'a> {
     }
 }
 
-/// Runs a replication, and prints the replication's result. If the line gives no session id, the call generates an id
-/// after it has found both databases and before it parses the document ids. The call may block, unless the line
-/// requests a replication with one thread.
+/// Runs a replication, and prints the replication's result. The call first looks up both databases, then determines the
+/// session id, and then parses the document ids. If the line gives no session id, the call generates an id. The call
+/// can block only if the option `alone` is false.
 #[inline(never)]
 pub fn serve_replication<H: Threads + Wait + Sync>(
     rt: &H,
@@ -186,7 +186,8 @@ fn session_asked(databases: &mut Databases, options: &Options) -> u128
     }
 }
 
-/// Builds the plan of a `replicate` line. The program's settings replace parameters that the line does not give.
+/// Builds the plan of a `replicate` line. If the line gives no worker count, batch size or timestamp, the plan uses the
+/// program's setting.
 ///
 /// # Errors
 ///
@@ -241,7 +242,7 @@ fn run_plan<H: Threads + Wait + Sync>(
     ending_of_run(databases.replicate(rt, alloc, ask.source, ask.target, plan))
 }
 
-/// Returns how a replication with a pool of threads and a progress board ended, or the error of the script line.
+/// Converts the result of the pool (with a progress board) to an `Ending`, or to the error of the script line.
 fn ending_of_watched(outcome: Result<Watched, PoolFault>) -> Result<Ending, Refusal>
     ensures { result ≡ ending_of_watched outcome }
 {
@@ -251,8 +252,8 @@ fn ending_of_watched(outcome: Result<Watched, PoolFault>) -> Result<Ending, Refu
     }
 }
 
-/// Returns how a replication with a pool of threads, but without a progress board, ended, or the error of the script
-/// line. If the plan's limit stopped the replication, the replication has not failed.
+/// Converts the result of the pool (without a progress board) to an `Ending`, or to the error of the script line. A
+/// replication that the plan's limit stopped has not failed.
 fn ending_of_run(outcome: Result<Report, PoolFault>) -> Result<Ending, Refusal>
     ensures { result ≡ ending_of_run outcome }
 {
@@ -265,8 +266,8 @@ fn ending_of_run(outcome: Result<Report, PoolFault>) -> Result<Ending, Refusal>
     }
 }
 
-/// Returns how a replication with one thread ended, or the error of the script line. If the plan's limit stopped the
-/// replication, the replication has not failed.
+/// Converts the result of a replication with one thread to an `Ending`, or to the error of the script line. A
+/// replication that the plan's limit stopped has not failed.
 fn ending_of(outcome: Result<Report, TargetFault>) -> Result<Ending, Refusal>
     ensures { result ≡ ending_of outcome }
 {
@@ -332,7 +333,7 @@ fn push_session(alloc: Global, answer: &mut Vec<u8>, report: &Report) -> Result<
     push_number(answer, report.recorded)
 }
 
-/// Appends the number of leaves that a session checked, and the number of these leaves that the target lacked.
+/// Appends two counts of a session: the leaves that were checked, and the checked leaves that the target lacked.
 fn push_checked(answer: &mut Vec<u8>, report: &Report) -> Result<(), AllocError>
     ensures { OnOk result (answer.new.items ≡ answer.old.items ++ checked_part report.now) }
 {

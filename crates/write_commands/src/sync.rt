@@ -80,8 +80,8 @@ impl<'v, 'a> Command<&'v Line<'a>> for BothWays<'v, 'a> {
         })
     }
 
-    /// Runs `sync`. If the replication from `a` to `b` fails, the replication from `b` to `a` does not start. `serve`
-    /// may block, unless the member `alone` of the `sync` line is true.
+    /// Runs `sync`. If the replication from `a` to `b` fails, the replication from `b` to `a` does not start. The call
+    /// can block only if the option `alone` is false.
     fn serve<H: Threads + Wait + Sync>(
         &self,
         rt: &H,
@@ -115,7 +115,7 @@ fn shared_of(value: &LineValue<'_>) -> Option<Shared>
 }
 
 /// Returns the parameters of the forward or the reverse replication of a `sync` line, with the replication's session
-/// id. Neither replication of a `sync` line stops early or prints progress counts.
+/// id. Both replications of a `sync` line run without a limit of windows, and print no progress counts.
 fn options_of(shared: &Shared, session: Option<u128>) -> Options
     ensures { result ≡ way_options shared.now session }
 {

@@ -18,7 +18,7 @@ pub(crate) fn all_or_some(rng: &mut ChaCha8Rng) -> Picked {
 }
 
 /// Creates the selection of the documents in a mask, or returns `None` for the mask `ALL`. The function passes the ids
-/// to `Chosen::new` in reverse order. If the mask has only one document, the function passes the document's id twice.
+/// to `Chosen::new` in reverse order. If the mask has only one document, the function passes this document's id twice.
 pub(crate) fn chosen(rt: &impl Abort, alloc: Global, picked: Picked) -> Option<Chosen> {
     if picked == ALL {
         return None;

@@ -64,8 +64,8 @@ fn mask_of(rt: &impl Abort, revs: &[Rev]) -> u32 {
     mask
 }
 
-/// Asserts that a request for a document lists exactly those leaves of `tree` (the source's tree) that `held` (the
-/// target's tree) lacks, winner first.
+/// Asserts that a request for a document lists exactly the expected leaves, winner first. The expected leaves are in
+/// the source's tree `tree`, but not in the target's tree `held`.
 fn asks_of(
     rt: &impl Abort,
     alloc: Global,
@@ -122,8 +122,8 @@ fn is_leaf(
     );
 }
 
-/// Asserts that the parcel's documents from index `from` on are those leaves of `tree` whose ancestries have one of the
-/// given revisions. Returns the index after the last compared document.
+/// Asserts that the parcel's documents from index `from` on are the leaves of `tree` whose ancestries have one of the
+/// given revisions. Returns the index of the first document that was not compared.
 fn brings_leaves(
     rt: &impl Abort,
     alloc: Global,
@@ -143,8 +143,8 @@ fn brings_leaves(
 }
 
 /// Asserts that the parcel's gone revisions from index `from` on are those requested revisions that `tree` lacks.
-/// Returns the index after the last compared item in the parcel's list of gone revisions (requested revisions that the
-/// source does not have).
+/// Returns the index of the first gone revision that was not compared. A gone revision is a requested revision that the
+/// source does not have.
 fn loses(
     rt: &impl Abort,
     parcel: &Parcel,
@@ -168,9 +168,9 @@ fn loses(
     at
 }
 
-/// Asserts that a parcel has exactly the documents that the reference model `plain` has for the request `asked`, and
-/// that the parcel's gone revisions are exactly those requested revisions that the reference model lacks. Returns the
-/// parcel's number of documents.
+/// Asserts that a parcel has exactly the documents that the reference model `plain` has for the request `asked`. The
+/// parcel's gone revisions must be exactly the requested revisions that the reference model lacks. Returns the parcel's
+/// number of documents.
 fn brings(
     rt: &impl Abort,
     alloc: Global,
@@ -234,8 +234,7 @@ fn exchange(
 }
 
 /// Creates a target, and compares the target's requests and the fetched documents with the reference models
-/// (`exchange`). The function is separate from its caller, because the caller's proof grows with each variable that is
-/// live in the caller.
+/// (`exchange`). This code is a separate function, because each live variable makes the proof of the caller larger.
 fn with_target(rt: &impl Abort, alloc: Global, seed: u64, source: &mut Side) -> usize {
     let mut rng = ChaCha8Rng::seed_from_u64(seed);
     let mut target = Side::new(alloc, 2);

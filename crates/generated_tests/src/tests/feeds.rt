@@ -19,7 +19,7 @@ pub(crate) fn id(rt: &impl Abort, alloc: Global, number: usize) -> DocId {
     DocId::parse(alloc, text.as_str()).expect(rt, "an id")
 }
 
-/// Returns the number of a document whose id is `d` and a digit.
+/// Returns the number of a document. The document's id must consist of the letter d and a digit.
 pub(crate) fn number_of(rt: &impl Abort, text: &str) -> usize {
     match text.as_bytes() {
         [b'd', digit] if *digit >= b'0' => (*digit - b'0') as usize % IDS,

@@ -67,8 +67,8 @@ fn is_walk(rt: &impl Abort, alloc: Global, plain: &PlainTree, one: Rev, walk: &[
     );
 }
 
-/// Whether a `Tree` and a `PlainTree` agree about whether a revision exists, what its origin is, and whether it is a
-/// leaf.
+/// Whether a `Tree` and a `PlainTree` agree about the existence and the origin of a revision, and about whether the
+/// revision is a leaf.
 fn has_as(tree: &Tree, plain: &PlainTree, one: Rev) -> bool {
     let origin = plain.origin(one);
     let stands = tree.has(one) == origin.is_some();

@@ -10,8 +10,9 @@ use std::process::Abort;
 /// The number of windows of a front.
 const WINDOWS: usize = 20;
 
-/// Returns the expected low water of a front, which is the sequence up to which all windows of the front are done.
-/// `marks[i]` states whether the window (start + 10 i, start + 10 i + 10] is done.
+/// Returns the expected low water of a front, which is the sequence up to which all windows of the front are done. The
+/// element `marks[i]` says whether window `i` is done. Window `i` consists of ten sequences, and begins above the
+/// sequence `start + 10 * i`.
 fn low_water(start: u64, marks: &[bool; WINDOWS]) -> u64 {
     let mut water = start;
     for mark in marks {
@@ -23,7 +24,7 @@ fn low_water(start: u64, marks: &[bool; WINDOWS]) -> u64 {
     water
 }
 
-/// Returns the number of groups of adjacent done windows that begin above the low water.
+/// Counts the groups of adjacent done windows above the low water.
 fn range_count(marks: &[bool; WINDOWS]) -> usize {
     let mut count: usize = 0;
     let mut before = true;
@@ -70,14 +71,13 @@ fn finish_one(rt: &impl Abort, front: &mut Front, lo: u64, is_done: bool) {
 }
 
 /// Whether a front has the expected low water and the expected number of groups of adjacent done windows. The expected
-/// values are computed from the list `marks`, in which `marks[i]` states whether the front's window with the index i is
-/// done.
+/// values are computed from the list `marks`. The element `marks[i]` says whether window `i` of the front is done.
 fn is_marked(front: &Front, start: u64, marks: &[bool; WINDOWS]) -> bool {
     front.low_water() == low_water(start, marks) && front.range_count() == range_count(marks)
 }
 
-/// Calls `finish_one` forty times, each time for a randomly chosen window of a front. For each window, the first try to
-/// finish the window must succeed, and each later try must fail.
+/// Calls `finish_one` forty times, each time for a randomly chosen window of a front. The first attempt to finish a
+/// given window must succeed, and each later attempt must fail.
 fn finishes(rt: &impl Abort, front: &mut Front, seed: u64) {
     let mut rng = ChaCha8Rng::seed_from_u64(seed);
     let start = seed % 7;

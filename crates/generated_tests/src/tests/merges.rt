@@ -33,7 +33,8 @@ pub(crate) fn rev(rt: &impl Abort, place: usize) -> Rev {
     }
 }
 
-/// Whether `revs` is the list of those revisions that the module `reference` represents by the indices `places`.
+/// Whether the list `revs` has exactly the revisions with the indices `places`, in the same order. The module
+/// `reference` defines the index of a revision.
 pub(crate) fn are(rt: &impl Abort, revs: &[Rev], places: &[usize]) -> bool {
     let mut are = revs.len() == places.len();
     for (one, place) in revs.iter().zip(places) {
@@ -123,8 +124,8 @@ fn is_walk(rt: &impl Abort, alloc: Global, reference: &Reference, place: usize, 
     );
 }
 
-/// Whether a tree and the reference model (`Reference`) agree about whether a revision exists, what its origin is, and
-/// whether it is a leaf.
+/// Whether a tree and the reference model (`Reference`) agree about the existence and the origin of a revision, and
+/// about whether the revision is a leaf.
 fn has_as(tree: &Tree, reference: &Reference, one: Rev, place: usize) -> bool {
     let stands = tree.has(one) == reference.has(place);
     let is_leaf = tree.is_leaf(one) == reference.is_leaf(place);
@@ -200,8 +201,8 @@ fn agree_on_above(
     assert_are(rt, tree.leaves_above(alloc, &revs), &above);
 }
 
-/// Chooses random revisions, and asserts that a tree and the reference model return the same missing revisions and the
-/// same leaves for these revisions.
+/// Chooses random revisions. Asserts that a tree and the reference model agree about which chosen revisions are
+/// missing, and about which leaves have a chosen revision in their ancestries.
 fn agree_on_asked(
     rt: &impl Abort,
     alloc: Global,

@@ -1,7 +1,8 @@
 //! Tests of networks whose peers are edited at random. After a replication through a hub, or two rounds of replications
-//! along a ring of peers, all peers must have the same documents. A repetition of the replication must change no peer,
-//! and audits must find no uncovered leaf. After replications along random hops (each from one peer to another), the
-//! last peer of each chain of hops must have all earlier leaves of the chain's first peer.
+//! along a ring of peers, all peers must have the same documents. If the replication is repeated, it must change no
+//! peer. Audits must find no uncovered leaf. Another test replicates along random hops, each from one peer to another.
+//! If a chain of hops leads from one peer to a second peer, the second peer must have all earlier leaves of the first
+//! peer.
 use crate::tests::checks::holds;
 use crate::tests::feeds::id;
 use crate::tests::merges::below;
@@ -42,8 +43,8 @@ fn at<'a>(rt: &impl Abort, net: &'a Net<Rules>, place: usize) -> &'a Peer<Rules>
     net.peer(place).expect(rt, "a peer")
 }
 
-/// Asserts that no audit of two peers finds an uncovered leaf (a leaf of the source that the target neither stored nor
-/// rejected).
+/// Audits every two peers in both directions, and asserts that the audits find no uncovered leaf. An uncovered leaf is
+/// a leaf of the source that the target neither stored nor rejected.
 fn assert_clean(rt: &impl Abort, alloc: Global, net: &Net<Rules>) {
     for one in 0..PEERS {
         for other in 0..PEERS {
@@ -109,10 +110,10 @@ fn hops(rt: &impl Abort, alloc: Global, rng: &mut ChaCha8Rng, sessions: &mut u12
     hops
 }
 
-/// Returns, for each peer, the set of peers to which a chain of hops leads from this peer, as a bit mask. A peer's set
-/// also contains the peer itself.
+/// Returns a bit mask for each peer: the set of peers to which a chain of hops leads from this peer. The set of each
+/// peer also contains the peer itself.
 ///
-/// The function processes each hop once for each peer, instead of enumerating all chains of hops.
+/// The function scans the list of hops once for each peer, and does not enumerate the chains of hops.
 fn reached(hops: &[Hop]) -> [u32; PEERS] {
     let mut reached = [0u32; PEERS];
     for (place, places) in reached.iter_mut().enumerate() {
@@ -126,7 +127,8 @@ fn reached(hops: &[Hop]) -> [u32; PEERS] {
     reached
 }
 
-/// Returns the leaves of all documents at all peers, each leaf with the peer's index and the document's number.
+/// Returns the leaves of all documents at all peers. Each item of the result has the peer's index, the document's
+/// number and the leaf.
 fn leaves_of(rt: &impl Abort, alloc: Global, net: &Net<Rules>) -> Vec<(usize, usize, Rev)> {
     let mut all = Vec::new(alloc);
     for place in 0..PEERS {
@@ -149,7 +151,7 @@ fn has(rt: &impl Abort, alloc: Global, peer: &Peer<Rules>, number: usize, rev: R
     }
 }
 
-/// Asserts that each leaf has reached all peers to which chains of hops lead from the leaf's peer.
+/// Asserts that each leaf is at every peer to which a chain of hops leads from the leaf's original peer.
 fn assert_led(
     rt: &impl Abort,
     alloc: Global,
@@ -236,7 +238,7 @@ fn of_seed(rt: &impl Abort, alloc: Global, seed: u64) {
 }
 
 /// Repeatedly edits the peers' documents at random, and replicates along random hops. Returns the number of rounds in
-/// which the random hops of the round formed chains from every peer to every other peer.
+/// which chains of hops led from every peer to every other peer.
 fn by_chance(rt: &impl Abort, alloc: Global, seed: u64) -> usize {
     let mut rng = ChaCha8Rng::seed_from_u64(seed);
     let mut sessions = 0;

@@ -1,6 +1,6 @@
 //! Tests that replicate all documents or random selections of documents between peers, by one thread and by the pool.
-//! Each test compares a replication with a plain model of both peers. The test compares the trees and the covered
-//! revisions of both peers, the report, and the session's ledger.
+//! Each test compares the result of a replication with simple models of both peers. The test compares the trees and the
+//! covered revisions of both peers, the report, and the session's ledger.
 use crate::tests::checks::holds;
 use crate::tests::choices::{chosen, some};
 use crate::tests::feeds::{document_by_chance, is_answer};
@@ -20,8 +20,8 @@ use std::process::Abort;
 use std::sync::Wait;
 use std::thread::Threads;
 
-/// A random number below `CHOICES` determines which document the target refuses. If the random number is `IDS` or more,
-/// the target refuses no document.
+/// A random number below `CHOICES` is the number of the document that the target refuses. If there is no document with
+/// this number, the target refuses no document.
 const CHOICES: u32 = 8;
 
 /// The index of the set of all documents in the list `Bench::picked`.
@@ -50,10 +50,10 @@ enum Call {
     Replicate(usize, usize),
 }
 
-/// The steps of a test with two sources and one target. The test first loads random documents into both sources and the
-/// target, and replicates all documents of the source `OTHER`. After the source `OTHER`, the test replicates the source
-/// `SOURCE`, first for one selection and then for all documents. At the end, the test loads more documents into the
-/// source `SOURCE`, and replicates this source for two selections and for all documents.
+/// The steps of a test with two sources and one target. First, the test loads random documents into both sources and
+/// the target. Next, the test replicates all documents from the source `OTHER`. Next, the test replicates one selection
+/// and then all documents from the source `SOURCE`. At the end, the test loads more documents into `SOURCE`, and
+/// replicates two selections and then all documents from `SOURCE`.
 static CALLS: &[Call] = &[
     Call::Grow(OTHER, 10),
     Call::GrowTarget(5),
@@ -67,8 +67,8 @@ static CALLS: &[Call] = &[
     Call::Replicate(SOURCE, WHOLE),
 ];
 
-/// A peer and the peer's plain model. For a source, `carried[i]` is the sequence up to which the target has replicated
-/// the documents of `Bench::picked[i]`.
+/// A peer and the peer's plain model. If the peer is a source, the documents in `Bench::picked[i]` have been replicated
+/// up to the sequence `carried[i]`.
 #[derive(Drop)]
 struct Side {
     peer: Peer<Rules>,
@@ -162,7 +162,7 @@ impl Bench {
         }
     }
 
-    /// Replicates a source into the target, completely or for a selection, in a new session.
+    /// Replicates all documents or a selection from a source into the target, in a new session.
     fn replicate<R: Abort + Threads + Wait + Sync>(
         &mut self,
         rt: &R,
@@ -218,7 +218,8 @@ fn plan(
     }
 }
 
-/// Moves a peer out of a variable, because a run of the pool takes both peers by value.
+/// Moves a peer out of a variable, and leaves an empty peer in the variable. The pool's function `run` takes both peers
+/// by value.
 fn taken(alloc: Global, place: &mut Peer<Rules>) -> Peer<Rules> {
     mem::replace(place, Peer::new(alloc, 0, Rules { deny: None }))
 }
@@ -241,7 +242,7 @@ fn taken_back(
     outcome.ok()
 }
 
-/// Replicates one peer into another, by one thread if the plan has no workers, and otherwise by the pool.
+/// Replicates one peer into another. If the plan has no workers, one thread replicates. Otherwise, the pool replicates.
 fn carry_peers<R: Threads + Wait + Sync>(
     rt: &R,
     alloc: Global,

@@ -1,15 +1,15 @@
-//! The plain form of a revision tree: a list of merged ancestries, a list of contents, and a list of origins.
+//! Models a revision tree by three lists: the merged ancestries, the contents and the origins.
 //!
-//! `PlainTree` is slower and simpler than `Tree`. To find an entry, each function of this file scans the list of
-//! ancestries, contents or origins without an index, and uses the first matching entry.
+//! `PlainTree` is slower and simpler than `Tree`. A lookup scans one of the three lists without an index, and uses the
+//! first matching entry.
 
 use rev_core::{Ancestry, Rev};
 use rev_tree::{Merged, Origin};
 use std::alloc::{AllocError, Global};
 use std::cmp::Ordering;
 
-/// The result of a merge. In the error `(child, known, given)` of a merge, `child` has the parent `known` in the tree,
-/// and a different parent `given` in the ancestry.
+/// The result of a merge. A merge fails with `(child, known, given)` if the revision `child` has the parent `known` in
+/// the tree and another parent `given` in the ancestry.
 pub(crate) type PlainAnswer = Result<Merged, (Rev, Rev, Rev)>;
 
 /// A plain revision tree: the merged ancestries, and the contents and origins of revisions.
@@ -45,7 +45,7 @@ impl PlainTree {
         None
     }
 
-    /// Returns the deleted flag of a revision's content, and the content's body, which is one byte.
+    /// Returns the content of a revision: the deleted flag, and a body of one byte.
     pub(crate) fn content(&self, rev: Rev) -> Option<(bool, u8)> {
         for entry in &self.contents {
             if entry.0 == rev {
@@ -81,7 +81,7 @@ impl PlainTree {
         deleted(a).cmp(&deleted(b)).then(b.cmp(&a))
     }
 
-    /// Returns the leaves, winner first. The call inserts each leaf before the first leaf that loses against the
+    /// Returns the leaves, winner first. The call inserts each leaf before the first listed leaf that loses against the
     /// inserted leaf.
     pub(crate) fn leaves(&self, alloc: Global) -> Result<Vec<Rev>, AllocError> {
         let mut leaves: Vec<Rev> = Vec::new(alloc);
@@ -110,7 +110,7 @@ impl PlainTree {
         Ok(walk)
     }
 
-    /// Returns those of the given leaves whose ancestries have one of the given revisions.
+    /// Returns each given leaf whose ancestry has one of the given revisions.
     pub(crate) fn above(
         &self,
         alloc: Global,
@@ -138,8 +138,8 @@ impl PlainTree {
         Ok(missing)
     }
 
-    /// Returns `(child, known, given)` for the newest revision `child` that has the parent `known` in the tree, and a
-    /// different parent `given` in the ancestry.
+    /// Finds the newest revision `child` whose parent `known` in the tree differs from its parent `given` in the
+    /// ancestry. Returns `(child, known, given)`, or `None` if there is no such revision.
     fn contradiction(&self, revs: &[Rev]) -> Option<(Rev, Rev, Rev)> {
         for pair in revs.windows(2) {
             if let [child, given] = pair {

@@ -41,12 +41,13 @@ pub(crate) fn next_above(documents: &Documents, seq: u64, goal: u64) -> Option<(
 /// A set of revisions for each document, as bit masks.
 pub(crate) type Masks = [u32; IDS];
 
-/// A ledger row: the document's number, the document's newest revision, and the child, known parent and given parent of
-/// a contradiction. In the ledger row of a document that the filter refuses, the child and its two parents are
-/// `PLACES`.
+/// A ledger row: the number of a document, the document's newest revision, and the three revisions of a contradiction.
+/// The revisions of a contradiction are the child, the child's parent in the tree, and the child's parent in the
+/// document. If the filter refused the document, the row has `PLACES` instead of each revision of a contradiction.
 pub(crate) type Row = [usize; 5];
 
-/// A peer's plain model: each document's tree and latest sequence, and the revisions of refused documents.
+/// A simple model of a peer. The model has each document's tree and latest sequence, and the revisions of refused
+/// documents.
 #[derive(Clone, Copy)]
 pub(crate) struct PlainSide {
     pub(crate) documents: Documents,
@@ -83,8 +84,8 @@ impl PlainSide {
         answer
     }
 
-    /// Merges a fetched document into a side (the plain model of a peer), or refuses the document and returns the
-    /// document's ledger row.
+    /// Merges a fetched document into a side (the plain model of a peer). If the side refuses the document, the call
+    /// returns the document's ledger row.
     pub(crate) fn take(
         &mut self,
         number: usize,
@@ -108,13 +109,13 @@ impl PlainSide {
         Some(row)
     }
 
-    /// Returns the revisions of a document that are in the document's tree or were refused.
+    /// Returns the covered revisions of a document: the revisions in the document's tree and the refused revisions.
     pub(crate) fn covered(&self, number: usize) -> u32 {
         self.tree(number).revisions() | self.refused[number % IDS]
     }
 }
 
-/// The counts of a replication, and the ledger rows of the replication's session.
+/// The counts and the ledger rows of a replication.
 #[derive(Drop)]
 pub(crate) struct Carried {
     pub(crate) checked: u64,
@@ -134,7 +135,8 @@ impl Carried {
         }
     }
 
-    /// Counts a fetched document as refused if the argument `row` has a ledger row, and otherwise as written.
+    /// Counts a fetched document. A document with a ledger row counts as refused, and a document without a ledger row
+    /// counts as written.
     fn count(&mut self, rt: &impl Abort, row: Option<Row>) {
         self.found = self.found.saturating_add(1);
         match row {
@@ -192,8 +194,8 @@ fn carry_document(
     }
 }
 
-/// Merges a leaf of a source's tree, with the leaf's ancestry, into the target, or refuses the leaf and returns the
-/// leaf's ledger row.
+/// Merges a leaf of a source's tree, with the leaf's ancestry, into the target. If the target refuses the leaf, the
+/// call returns the leaf's ledger row.
 pub(crate) fn take_leaf(
     rt: &impl Abort,
     alloc: Global,

@@ -22,7 +22,7 @@ pub(crate) struct Rows {
     leaves: Masks,
 }
 
-/// A fetched parcel, represented by the request and a copy of the source at the time of the fetch.
+/// A fetched parcel. The model stores the request, and a copy of the source from the time of the fetch.
 #[derive(Clone, Copy)]
 struct Fetched {
     asked: Rows,
@@ -44,7 +44,7 @@ pub(crate) struct Done {
     pub(crate) failures: u64,
 }
 
-/// The log that the source has of the replication, oldest entry first, and the life of the source's database.
+/// The source's log of the replication, oldest entry first, and the life of the source's database.
 #[derive(Drop)]
 pub(crate) struct SourceLog {
     pub(crate) life: u64,
@@ -68,18 +68,18 @@ struct Copied {
     log: SourceLog,
 }
 
-/// Counts of events in a list of steps that occur only if a step restores the source from a backup.
+/// Counts of events that occur only in lists of steps that restore the source from a backup.
 #[derive(Clone, Copy, Debug)]
 pub(crate) struct Met {
     /// The number of restores while windows, entries or logs were in transit.
     pub(crate) restores: u64,
     /// The number of sessions that began from a log of an earlier life (incarnation) of the source's database.
     pub(crate) begins: u64,
-    /// The number of windows that a session did not store because the window's life (the source's incarnation) differs
-    /// from the session's life.
+    /// The number of windows that a session did not store because window and session belong to different lives
+    /// (incarnations) of the source.
     pub(crate) windows: u64,
-    /// The number of entries that the source did not store because the entry's life (the source's incarnation) differs
-    /// from the source's life.
+    /// The number of entries that the source did not store because the entry's life is not the current life
+    /// (incarnation) of the source.
     pub(crate) entries: u64,
 }
 
@@ -94,7 +94,7 @@ impl Met {
         }
     }
 
-    /// Adds the counts in `other`, which come from another list of steps, to the counts in `self`.
+    /// Adds the counts in `other` to the counts in `self`. The counts in `other` come from another list of steps.
     pub(crate) fn add(&mut self, other: &Met) {
         self.restores = self.restores.saturating_add(other.restores);
         self.begins = self.begins.saturating_add(other.begins);
@@ -102,7 +102,7 @@ impl Met {
         self.entries = self.entries.saturating_add(other.entries);
     }
 
-    /// Returns the least of the four counts (of restores, sessions, windows and entries).
+    /// Returns the smallest of the four counts.
     pub(crate) fn least(&self) -> u64 {
         self.restores
             .min(self.begins)
@@ -145,7 +145,7 @@ fn count(masks: &Masks) -> u64 {
 }
 
 /// Returns a page of a source's feed, marked with the given life (incarnation) of the source's database. The call scans
-/// at most `limit` rows above `since` and at or below `goal`. The page has those of the scanned rows that are selected.
+/// at most `limit` rows above `since` and at or below `goal`. The page has only the scanned rows of selected documents.
 fn page(side: &PlainSide, life: u64, since: u64, goal: u64, limit: u64, picked: Picked) -> Rows {
     let mut leaves = [0; IDS];
     let mut hi = since;
@@ -250,9 +250,9 @@ impl Sessions {
         low
     }
 
-    /// Returns the common checkpoint of a source's log and the target's sessions. For the newest session that the log
-    /// and the target share, the common checkpoint is the lesser of the two recorded sequences. Without a shared
-    /// session, the common checkpoint is 0.
+    /// Returns the common checkpoint of a source's log and the target's sessions. The newest session in both the log
+    /// and the target has two recorded sequences, and the common checkpoint is the smaller sequence. If the log and the
+    /// target share no session, the common checkpoint is 0.
     fn agreed(&self, entries: &[Done]) -> u64 {
         for held in self.begun.iter().rev() {
             if let Some(place) = place_in(entries, held.done.session) {
@@ -263,8 +263,8 @@ impl Sessions {
         0
     }
 
-    /// Begins a session with the log's life (the number of the source's incarnation), unless a session has the same id
-    /// or the goal is below the session's start. The session starts at the common checkpoint of the source's log and
+    /// Begins a session with the life (incarnation) of the log. The call has no effect if a session has the same id, or
+    /// if the goal is below the session's start. The session starts at the common checkpoint of the source's log and
     /// the target's sessions.
     fn begin(&mut self, rt: &impl Abort, session: u128, log: &SourceLog, goal: u64, time: u64) {
         let start = self.agreed(&log.entries);
@@ -313,7 +313,8 @@ impl Sessions {
         })
     }
 
-    /// Counts a document of a session as refused if the argument `row` has a ledger row, and otherwise as written.
+    /// Counts a document of a session. A document with a ledger row counts as refused, and a document without a ledger
+    /// row counts as written.
     fn count(&mut self, rt: &impl Abort, session: u128, row: Option<Row>) {
         let place = self.place(session).unwrap_or(0);
         let held = self.begun.get_mut(place).expect(rt, "a session");
@@ -331,7 +332,7 @@ impl Sessions {
         covers(side, &self.windows.get(window).expect(rt, "a window").rows)
     }
 
-    /// Marks the window at an index as done, and returns the number of the window's leaves.
+    /// Marks the window at an index as done, and returns the number of leaves in the window.
     fn finish(&mut self, rt: &impl Abort, window: usize) -> u64 {
         let stored = self.windows.get_mut(window).expect(rt, "a window");
         stored.is_done = true;
@@ -348,8 +349,8 @@ impl Sessions {
         held.done.found = held.done.found.saturating_add(count(&asked.leaves));
     }
 
-    /// Records a session. If `concludes` is true, the call records the session only if the low water (the sequence up
-    /// to which all windows are done) is the session's goal. Returns the session's log entry.
+    /// Records a session. If `concludes` is true and the low water is not the session's goal, the call does not record
+    /// the session. The low water is the sequence up to which all windows are done. Returns the session's log entry.
     fn record(&mut self, session: u128, concludes: bool, time: u64) -> Option<Done> {
         let low = self.low_water(self.get(session)?);
         let place = self.place(session)?;
@@ -429,8 +430,8 @@ fn put_done(rt: &impl Abort, log: &mut Vec<Done>, done: Done) {
     }
 }
 
-/// The plain model of two peers that exchange messages: a source, a target, the target's sessions, the source's log,
-/// the messages, and the source's backups. Each list of the model begins with the oldest item.
+/// The plain model of two peers that exchange messages. The model has a source with its log and backups, a target with
+/// its sessions, and the messages. Each list of the model begins with the oldest item.
 #[derive(Drop)]
 pub(crate) struct PlainWorld {
     pub(crate) source: PlainSide,
@@ -499,9 +500,9 @@ impl PlainWorld {
         }
     }
 
-    /// Returns the id of the newest session if this session has not recorded its goal. If `any_life` is false, the
-    /// newest session must also have the source's life. If the newest session cannot be continued, returns the next
-    /// session id.
+    /// Returns the id of the newest session if this session can be continued, and otherwise the next session id. The
+    /// newest session can be continued if it has not recorded its goal. If `any_life` is false, the newest session can
+    /// be continued only if it also has the source's life.
     pub(crate) fn carried(&self, any_life: bool) -> u128 {
         match self.sessions.begun.last() {
             Some(held)
@@ -563,8 +564,8 @@ impl PlainWorld {
         self.logs.push(log).expect(rt, "memory");
     }
 
-    /// Begins a session from a log among the messages in transit, if the log exists and `Sessions::begin` accepts the
-    /// session.
+    /// Begins a session from a log that is in transit. The call has no effect if the log does not exist, or if
+    /// `Sessions::begin` does not begin the session.
     pub(crate) fn begin(
         &mut self,
         rt: &impl Abort,

@@ -2,8 +2,8 @@
 //! a, b or c.
 //!
 //! The revision at index `p` has generation `p / 3 + 1` and signature `p % 3`, so indices and revisions have the same
-//! order. This model of revision trees follows docs/PROFILE.md, "Merging" and "Leaves and the winner", and represents
-//! each set of revisions by a bit mask.
+//! order. This model of revision trees follows docs/PROFILE.md, "Merging" and "Leaves and the winner". Each set of
+//! revisions is a bit mask.
 
 use std::alloc::{AllocError, Global};
 use std::process::Abort;
@@ -93,8 +93,8 @@ impl Reference {
         self.origins[place % PLACES]
     }
 
-    /// Returns `Contradiction` for the newest revision `child` that has the parent `known` in the tree, and a different
-    /// parent `given` in the ancestry.
+    /// Finds the newest revision `child` whose parent `known` in the tree differs from its parent `given` in the
+    /// ancestry. Returns a `Contradiction`, or `None` if there is no such revision.
     pub(crate) fn contradiction(&self, revs: &[usize]) -> Option<Answer> {
         for pair in revs.windows(2) {
             if let [child, given] = pair {
@@ -164,7 +164,7 @@ impl Reference {
         self.leaf_mask() & bit(place) != 0
     }
 
-    /// Returns the live leaves and then the deleted leaves, both in order of decreasing index.
+    /// Returns the live leaves by decreasing index, followed by the deleted leaves by decreasing index.
     pub(crate) fn leaves(&self, alloc: Global) -> Result<Vec<usize>, AllocError> {
         let mut leaves = Vec::new(alloc);
         for deleted in [false, true] {

@@ -48,7 +48,7 @@ fn agrees_on(
     same && covers
 }
 
-/// Whether a `Tree` and its simple model `Reference` have the same number of revisions, and the same leaves with equal
+/// Whether a `Tree` and its simple model `Reference` agree about the number of revisions, the leaves, and the leaves'
 /// ancestries and contents.
 fn is_tree(rt: &impl Abort, alloc: Global, tree: &Tree, wanted: &Reference) -> bool {
     let places = wanted.leaves(alloc).expect(rt, "memory");

@@ -51,8 +51,8 @@ fn differ(
     found
 }
 
-/// Whether a comparison names the revision at `place` as the contradicting child, or names no child if `place` is
-/// `None`.
+/// Whether a comparison names the expected contradicting child. The expected child is the revision at index `place`, or
+/// no revision if `place` is `None`.
 fn names(rt: &impl Abort, comparison: &Comparison, place: Option<usize>) -> bool {
     match (comparison.contradiction(), place) {
         (Some(found), Some(place)) => found.child == rev(rt, place),
@@ -61,8 +61,8 @@ fn names(rt: &impl Abort, comparison: &Comparison, place: Option<usize>) -> bool
     }
 }
 
-/// Asserts that a document's comparison has the expected missing, differing and contradicting revisions. The argument
-/// `tree` is the document's expected tree at the source, and `held` is the expected tree at the target.
+/// Asserts that a document's comparison has the expected missing, differing and contradicting revisions. The arguments
+/// `tree` and `held` are the document's expected trees at the source and at the target.
 fn says(
     rt: &impl Abort,
     alloc: Global,
@@ -112,8 +112,7 @@ fn live(rt: &impl Abort, alloc: Global, tree: &Reference) -> Vec<usize> {
     live
 }
 
-/// Asserts that the leaves in conflict are all live leaves, or no leaves if the document has fewer than two live
-/// leaves.
+/// Asserts that `conflicting` returns all live leaves, or no leaf if the document has fewer than two live leaves.
 fn conflicts(rt: &impl Abort, alloc: Global, database: &Database, id: &DocId, live: &[usize]) {
     if let Some(tree) = database.tree(id) {
         let found = conflicting(alloc, tree).expect(rt, "memory");
@@ -193,8 +192,8 @@ fn survey(rt: &impl Abort, alloc: Global, source: &Side, target: &Side) -> [u64;
     [total.contradicting, total.differing, conflicts]
 }
 
-/// Tests the calls of `repl_inspect` with a source and a target. The function is separate from its caller, because the
-/// caller's proof grows with each variable that is live in the caller.
+/// Tests the calls of `repl_inspect` with a source and a target. This code is a separate function, because each live
+/// variable makes the proof of the caller larger.
 fn with_target(rt: &impl Abort, alloc: Global, seed: u64, source: &mut Side) -> [u64; 3] {
     let mut rng = ChaCha8Rng::seed_from_u64(seed);
     let mut target = Side::new(alloc, 2);
@@ -213,8 +212,8 @@ fn two_hundred_pairs_agree(rt: HostRuntime) {
             found[at] = found[at].saturating_add(more[at]);
         }
     }
-    // The test asserts that the 200 pairs of databases have in total more than 100 contradicting documents, 50
-    // differing leaves and 100 documents in conflict.
+    // In the 200 pairs of databases together, there must be more than 100 contradicting documents, more than 50
+    // differing leaves, and more than 100 documents in conflict.
     assert!(rt;
         found[0] > 100 && found[1] > 50 && found[2] > 100,
         "{found:?}"

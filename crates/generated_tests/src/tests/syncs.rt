@@ -85,8 +85,8 @@ fn edit_others(
     }
 }
 
-/// Whether two trees have the same number of revisions, the same leaves in the same order, and the same ancestry and
-/// content for each leaf.
+/// Whether two trees agree about the number of revisions, the leaves and their order, and the ancestry and content of
+/// each leaf.
 fn are_same(rt: &impl Abort, alloc: Global, one: &Tree, other: &Tree) -> bool {
     let leaves = one.leaves(alloc).expect(rt, "memory");
     let mut same = one.rev_count() == other.rev_count()
@@ -159,7 +159,8 @@ pub(crate) fn plan(
     }
 }
 
-/// Replicates two peers in both directions, by one thread if the plan has no workers, and otherwise by the pool.
+/// Replicates two peers in both directions. If the plan has no workers, one thread replicates. Otherwise, the pool
+/// replicates.
 fn meet<R: Abort + Threads + Wait + Sync>(
     rt: &R,
     alloc: Global,

@@ -23,10 +23,10 @@ use std::process::Abort;
 /// The number of steps in each random list of steps.
 const STEPS: usize = 80;
 
-/// The number of steps at the start of each random list that load a document into the source.
+/// Each random list of steps begins with `LOADS` steps that load a document into the source.
 const LOADS: usize = 4;
 
-/// A generator of random steps. The generator's model takes each step that is generated.
+/// A generator of random steps. The generator performs each generated step on its model.
 #[derive(Drop)]
 struct Dealer {
     alloc: Global,
@@ -34,7 +34,7 @@ struct Dealer {
     /// The revisions of the document `EDITED`, oldest first.
     chain: Vec<Rev>,
     model: PlainWorld,
-    /// The number of generated steps. The field `turn` counts only the steps that were generated in the order of a
+    /// The number of generated steps. The field `turn` counts only the generated steps that follow the order of a
     /// replication.
     number: usize,
     turn: usize,
@@ -67,8 +67,8 @@ impl Dealer {
         self.model.picked = all_or_some(&mut self.rng);
     }
 
-    /// Returns the last position of a list with `length` items, or sometimes a random number below 5, which may be out
-    /// of range.
+    /// Returns the last index of a list with `length` items. Sometimes, the call returns a random number below 5
+    /// instead, which may be out of range.
     fn place(&mut self, length: usize) -> usize {
         if below(&mut self.rng, 6) == 0 {
             below(&mut self.rng, 5)
@@ -77,7 +77,7 @@ impl Dealer {
         }
     }
 
-    /// Returns the id of the session to continue, or sometimes a random session id.
+    /// Usually returns the id of the session to continue, but sometimes returns a random id.
     fn session(&mut self) -> u128 {
         if below(&mut self.rng, 8) == 0 {
             below(&mut self.rng, 4) as u128
@@ -264,7 +264,8 @@ impl Dealer {
         Step::Crash
     }
 
-    /// Generates step `turn % 9` of the nine steps of a replication, counted from 0.
+    /// Generates one of the nine steps of a replication. The steps are counted from 0, and the call generates step
+    /// `turn % 9`.
     fn carry_on(&mut self, rt: &impl Abort, turn: usize) -> Step {
         match turn % 9 {
             0 => self.read_log(rt),
@@ -360,8 +361,8 @@ fn done_of(entry: &Entry) -> Done {
     }
 }
 
-/// Whether a log has exactly the expected entries. The log begins with the newest entry, and the list `wanted` begins
-/// with the oldest entry.
+/// Whether a log has exactly the expected entries. The entries of the log are newest first, and the expected entries in
+/// the list `wanted` are oldest first.
 fn is_log(log: &Log, wanted: &[Done]) -> bool {
     let mut same = log.len() == wanted.len();
     for (place, done) in wanted.iter().rev().enumerate() {
@@ -421,8 +422,8 @@ fn compare_ledger(
     holds(rt, has, "a ledger");
 }
 
-/// Asserts that an audit of the replicated documents finds no uncovered leaf (a leaf of the source that the target
-/// neither stored nor rejected).
+/// Audits the replicated documents, and asserts that the audit finds no uncovered leaf. An uncovered leaf is a leaf of
+/// the source that the target neither stored nor rejected.
 fn is_clean(
     rt: &impl Abort,
     alloc: Global,
@@ -463,8 +464,8 @@ fn peer(alloc: Global, uuid: u128, deny: Option<String>) -> Peer<Rules> {
     Peer::new(alloc, uuid, Rules { deny })
 }
 
-/// Creates a `World` (two peers and the messages between them) without documents and messages. A replication in the
-/// `World` copies the selected documents, or all documents if `chosen` is `None`.
+/// Creates a `World` (two peers and the messages between them) without documents and messages. Replications in this
+/// `World` copy the documents in `chosen`, or all documents if `chosen` is `None`.
 fn world(
     rt: &impl Abort,
     alloc: Global,

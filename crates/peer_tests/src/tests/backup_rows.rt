@@ -1,7 +1,6 @@
 //! Tests of backups. Each test is a table of calls with expected results. A restore of a source from a backup changes
-//! the source's life (a number). The test `other_life_refused` passes windows and log entries from one life of the
-//! source to sessions and peers that expect another life. The expected results of the calls assume that no allocation
-//! fails.
+//! the source's life (a number). The test `other_life_refused` gives sessions and peers a window or a log entry from
+//! the wrong life of the source. The expected results of the calls assume that no allocation fails.
 use crate::tests::peers::{Call, Lists, Rep, Rows, expect};
 use rev_tree::SessionId;
 
@@ -12,7 +11,7 @@ const TARGET: usize = 1;
 
 const OTHER: usize = 2;
 
-/// The indices of the first three items in each of a test's lists: the backups and the windows.
+/// The indices of a test's first three backups, and of the test's first three windows.
 const FIRST: usize = 0;
 
 const SECOND: usize = 1;
@@ -111,15 +110,14 @@ fn other_life_refused(rt: HostRuntime) {
             Call::PutEntryOf(SOURCE, REP, TARGET, S2),
             "OtherLife { now: 1 }",
         ),
-        // The given entry is older than the stored entry, but `PutEntry` first reports that the entry is from another
-        // life.
+        // The entry is from another life, and is older than the stored entry. `PutEntry` first checks the entry's life.
         (Call::PutEntry(SOURCE, REP, S1, 1), "OtherLife { now: 1 }"),
         (Call::SourceLog(SOURCE, REP), "1 at 3;"),
         (Call::Page(SOURCE, 3, 4), "3 to 4: 4 e 1-a;"),
         // The second window of the test is from another life (incarnation) of the source than the session S2. The
-        // second window of the test begins at sequence 3, below 6, the end of the stored windows of the session S2.
-        // `Append` reports that a window is from another life before it reports that the window begins too low. When
-        // the test first appends a window to the session S3, this session does not exist yet.
+        // second window of the test begins at sequence 3, but the stored windows of the session S2 end at 6. `Append`
+        // checks the life of a window before it checks the start of the window. When the test first appends a window to
+        // the session S3, this session does not exist yet.
         (Call::Append(TARGET, S2, SECOND), "OtherLife { now: 0 }"),
         (Call::Append(TARGET, S3, SECOND), "NoSuchSession"),
         (
@@ -130,8 +128,7 @@ fn other_life_refused(rt: HostRuntime) {
         (Call::SourceLog(SOURCE, REP), "3 at 4;1 at 3;"),
         (Call::Audit(SOURCE, TARGET), "clean"),
         (Call::Tree(TARGET, "d4"), "1-a of 1"),
-        // The source accepts the third session's entry, because this entry has the source's current life (the number
-        // that each restore of the source changes).
+        // The source accepts the entry of the third session, because the entry has the source's current life.
         (Call::PutEntryOf(SOURCE, REP, TARGET, S3), "put"),
     ];
     static LISTS: Lists = &[COPIED, AHEAD, PUT_BACK, ROWS];
@@ -142,7 +139,7 @@ fn other_life_refused(rt: HostRuntime) {
 fn copies_are_refused_by_name(rt: HostRuntime) {
     const ROWS: Rows = &[
         (Call::Backup(TARGET), "IsTarget"),
-        // `Restore` of the target reports `IsTarget` before it reports that the backup is from the source.
+        // `Restore` first checks whether the peer has been a target, and then whether the backup is from another peer.
         (Call::Restore(TARGET, FIRST), "IsTarget"),
         (Call::Peer(3, None), "made"),
         (Call::Restore(OTHER, FIRST), "ForeignBackup"),
@@ -159,7 +156,7 @@ fn copies_are_refused_by_name(rt: HostRuntime) {
 fn a_life_is_above_both(rt: HostRuntime) {
     const ROWS: Rows = &[
         (Call::Backup(SOURCE), "1 at 4"),
-        // The source is restored a second time from the first backup, and then from the second backup.
+        // The test restores the source from the first backup again, and then from the second backup.
         (Call::Restore(SOURCE, FIRST), "restored"),
         (Call::Life(SOURCE), "2"),
         (Call::Numbers(SOURCE), "1 at 3"),
@@ -180,8 +177,7 @@ fn a_life_is_above_both(rt: HostRuntime) {
             Call::Verdict(OTHER, r#"{"_id":"d1","_rev":"1-a"}"#),
             "Refuse",
         ),
-        // A session begins at the common checkpoint of both logs, even if the logs are from different lives of the
-        // source.
+        // Even if the two logs are from different lives of the source, a session begins at their common checkpoint.
         (Call::BeginPlan(S4, 10), "3"),
     ];
     static LISTS: Lists = &[COPIED, AHEAD, PUT_BACK, ROWS];

@@ -39,8 +39,8 @@ fn at(alloc: Global, db: &Database, id: &DocId, rev: Rev) -> Option<String> {
     }
 }
 
-/// Returns the texts of those leaves of a document that are in a session's ledger, in the ledger's order, each with the
-/// ledger's reason.
+/// Returns, in order, the texts of the rows for a given document in a session's ledger. Each text has the fetched
+/// document and the reason.
 pub(crate) fn refused(
     alloc: Global,
     peer: &Peer<Rules>,
@@ -53,7 +53,7 @@ pub(crate) fn refused(
     }
 }
 
-/// Returns the texts of a ledger's rows for the document with a given id.
+/// Returns the texts of the ledger rows that belong to the document with a given id.
 fn refused_of(alloc: Global, rows: &[Refused], id: &str) -> Option<String> {
     let mut all = Some(String::new(alloc));
     for row in rows {

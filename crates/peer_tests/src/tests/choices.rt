@@ -34,18 +34,16 @@ pub(crate) enum Call<'a> {
     Equal(usize, usize),
     /// Check whether a document is selected.
     Has(Under, &'a str),
-    /// Format the replication id that a replication of the source into the target has.
+    /// Format the id of the replication from the source into the target.
     Text(Under),
-    /// Read a page of the source, given the sequence before the page, the goal, and the number of the feed's rows to
-    /// scan.
+    /// Read a page of the source, given the sequence before the page, the goal, and the number of rows to scan.
     Page(u64, u64, u64, Under),
     /// Replicate the source into the target with one thread, given the session id and the number of feed rows that each
     /// window scans.
     Replicate(SessionId, u64, Under),
     /// Begin a session at the target.
     Begin(SessionId, Under),
-    /// Read a page of the source, given the sequence before the page and the goal, and append the page to a session at
-    /// the target.
+    /// Append a page of the source to a session at the target, given the sequence before the page and the goal.
     Append(SessionId, u64, u64, Under),
     /// Audit the target.
     Audit(Under),
@@ -202,8 +200,8 @@ fn rep_text(alloc: Global, rep: &RepId) -> Option<String> {
     }
 }
 
-/// Returns the selection at an index. Returns `Some(None)` for a call on all documents, and `None` if no selection has
-/// the given index.
+/// Returns the selection at an index. For a call on all documents, returns `Some(None)`. If no selection has the given
+/// index, returns `None`.
 fn chosen(choices: &[Chosen], under: Under) -> Option<Option<&Chosen>> {
     match under {
         Some(at) => choices.get(at).map(Some),
@@ -211,7 +209,7 @@ fn chosen(choices: &[Chosen], under: Under) -> Option<Option<&Chosen>> {
     }
 }
 
-/// Creates a selection of ids, and returns the number of ids, followed by the ids if the selection is small.
+/// Creates a selection of ids, and returns the number of ids. For a small selection, the result also lists the ids.
 fn choose_ids(alloc: Global, choices: &mut Vec<Chosen>, ids: Vec<DocId>) -> Option<String> {
     match Chosen::new(ids) {
         Ok(chosen) => keep(alloc, choices, chosen),
@@ -219,7 +217,8 @@ fn choose_ids(alloc: Global, choices: &mut Vec<Chosen>, ids: Vec<DocId>) -> Opti
     }
 }
 
-/// Stores a selection, and returns the number of the selection's ids, followed by the ids if the selection is small.
+/// Stores a selection, and returns the number of the selection's ids. For a small selection, the result also lists the
+/// ids.
 fn keep(alloc: Global, choices: &mut Vec<Chosen>, chosen: Chosen) -> Option<String> {
     let text = ids_text(alloc, chosen.ids());
     let Ok(()) = choices.push(chosen) else {
@@ -228,7 +227,7 @@ fn keep(alloc: Global, choices: &mut Vec<Chosen>, chosen: Chosen) -> Option<Stri
     text
 }
 
-/// Returns the number of ids of a selection, followed by the ids if the selection is small.
+/// Returns the number of ids of a selection. For a small selection, the result also lists the ids.
 fn ids_text(alloc: Global, ids: &[DocId]) -> Option<String> {
     let mut all = shown(alloc, &ids.len());
     if ids.len() < 10 {
@@ -338,8 +337,8 @@ fn page_of(
     source.page(alloc, since, goal, 500, chosen).ok()
 }
 
-/// Appends a window to a session of the target. Returns `None` if `window` is `None`, because the page could not be
-/// read.
+/// Appends a window to a session of the target. If the page could not be read, `window` is `None`, and the call returns
+/// `None`.
 fn store(
     alloc: Global,
     target: &mut Peer<Rules>,

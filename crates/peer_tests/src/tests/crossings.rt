@@ -14,7 +14,8 @@ const DOCUMENT: &str = r#"{"_id":"d","_revisions":{"start":2,"ids":["b","a"]},"v
 
 const LATER: &str = r#"{"_id":"d","_revisions":{"start":3,"ids":["c","b","a"]},"v":2}"#;
 
-/// Returns a parcel (fetched documents): the reply of a database with one document to the request of an empty database.
+/// Returns a parcel (fetched documents) with one document. An empty database has requested the document from another
+/// database.
 fn parcel(alloc: Global) -> Option<Parcel> {
     let mut source = Database::new(alloc, 1);
     let Some(document) = doc(alloc, DOCUMENT) else {
@@ -32,7 +33,7 @@ fn parcel(alloc: Global) -> Option<Parcel> {
     source.open_revs(alloc, &asked).ok()
 }
 
-/// Moves a parcel into a thread. Returns the parcel, and the text that the thread made from the parcel.
+/// Moves a parcel into a thread, which formats the parcel as a string. Returns the parcel and the string.
 fn read_parcel<R: Threads>(
     rt: &R,
     alloc: Global,
@@ -57,7 +58,8 @@ fn a_parcel_goes_into_a_thread_and_back(rt: HostRuntime) {
     expect_answer(&rt, 1, parcel_text(rt.alloc(), &parcel), TEXT);
 }
 
-/// Moves a peer's backup into a thread, and returns the backup and the UUID and update sequence that the thread read.
+/// Moves a peer's backup into a thread, which reads the UUID and the update sequence. Returns the backup, and a string
+/// with both numbers.
 fn read_backup<R: Threads>(
     rt: &R,
     alloc: Global,
@@ -73,7 +75,7 @@ fn read_backup<R: Threads>(
     }
 }
 
-// The peer is restored from the backup that came back from the thread.
+// The test restores the peer from the backup that the thread has returned.
 #[test]
 fn a_backup_goes_into_a_thread_and_back(rt: HostRuntime) {
     let mut peer = Peer::new(rt.alloc(), 1, Rules { deny: None });

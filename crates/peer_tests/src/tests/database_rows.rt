@@ -1,5 +1,5 @@
-//! Tests of databases: pages, puts, edits, requests and fetches. Each test is a table of calls with expected results,
-//! which assume that no allocation fails.
+//! Tests of databases: pages, puts, edits, requests and fetches. Each test is a table of calls with expected results.
+//! The expected results assume that no allocation fails.
 use crate::tests::databases::{Bench, Call, Rows, expect};
 
 /// The index of a test's first database, which most calls read or change.
@@ -8,7 +8,7 @@ const A: usize = 0;
 /// The index of a test's second database, which requests the leaves that it lacks.
 const B: usize = 1;
 
-/// The index of the first item in each of a test's lists: the windows, the requests and the parcels.
+/// The index of a test's first window, first request and first parcel.
 const FIRST: usize = 0;
 
 /// Calls that store three documents, whose sequences are 1, 2 and 5.
@@ -95,8 +95,8 @@ fn a_changed_document_moves_in_the_feed(rt: HostRuntime) {
 #[test]
 fn puts_as_given(rt: HostRuntime) {
     const GROWN: &str = r#"{"_id":"d","_revisions":{"start":3,"ids":["c","b"]}}"#;
-    // Storing the document `LONGER` adds a missing ancestor, and storing the document `ANCESTOR` adds the first content
-    // of 2-b. Both are changes.
+    // The document `LONGER` adds a missing ancestor to the tree, and the document `ANCESTOR` adds the first content of
+    // 2-b. Both are changes.
     const LONGER: &str = r#"{"_id":"d","_revisions":{"start":3,"ids":["c","b","a"]}}"#;
     const ANCESTOR: &str = r#"{"_id":"d","_rev":"2-b","n":1}"#;
     // Storing the document `AGAIN` changes nothing, because a revision keeps its first content.
@@ -201,7 +201,7 @@ fn edits_refused_by_name(rt: HostRuntime) {
 
 #[test]
 fn an_edit_that_is_there(rt: HostRuntime) {
-    // The document `THERE` has the revision that the edit would create, but not the parent of this revision.
+    // The document `THERE` has the revision that the edit would create, but without this revision's parent.
     const THERE: &str = r#"{"_id":"d","_rev":"2-1c600d37126a8e6d3c67d6f7a6a5c299"}"#;
     static ROWS: Rows = &[
         (
@@ -270,8 +270,8 @@ fn a_fetched_document_has_its_ancestry_and_content(rt: HostRuntime) {
         (Call::Put(A, DELETED), "Changed { seq: 3 }"),
         (Call::Page(A, 0, 3, 10), "0 to 3: 3 d 2-a,3-c;"),
         (Call::Diff(B, FIRST), "0 to 3: d 2-a,3-c;"),
-        // A request or fetch lists the live leaf before the deleted leaf. The fetched ancestry of the leaf 3-c
-        // continues to 1-r, the parent of 2-b in the tree, although the ancestry in `DELETED` ends at 2-b.
+        // A request or fetch lists the live leaf before the deleted leaf. The ancestry in `DELETED` ends at 2-b. The
+        // fetched ancestry of the leaf 3-c also has 1-r, the parent of 2-b in the tree.
         (
             Call::Fetch(A, FIRST),
             r#"0 to 3: d 2-a,1-r live {"n":1}; d 3-c,2-b,1-r deleted {};"#,
@@ -345,7 +345,7 @@ fn pages_of_few_documents_with_high_sequences(rt: HostRuntime) {
 fn copies_of_a_database(rt: HostRuntime) {
     /// The greatest life.
     const LAST: u64 = 9_007_199_254_740_991;
-    // The index of a copy of the first database with the same life, a number that changes when a database is restored.
+    // The index of the copy that has the same life (incarnation number) as the first database.
     const SAME: usize = 1;
     // The index of a copy of the first database with another life.
     const OTHER: usize = 2;
@@ -374,8 +374,7 @@ fn copies_of_a_database(rt: HostRuntime) {
         (Call::Life(OTHER), "9"),
         (Call::Tree(A, "a"), "1-a of 1"),
         (Call::Tree(SAME, "a"), "1-a of 1"),
-        // Without a life (the number that changes when a database is restored), the call `Copy` gives the new copy the
-        // life of the copied database.
+        // If no life is given, `Copy` gives the new copy the life (incarnation number) of the copied database.
         (Call::Copy(OTHER, None), "made"),
         (Call::Life(LATEST), "9"),
         (Call::Numbers(LATEST), "7 at 6"),

@@ -1,4 +1,5 @@
-//! Calls on databases, and a test fixture that holds databases and the pages, requests and parcels that calls returned.
+//! Performs calls on databases in a test fixture. The fixture holds the databases, and the pages, requests and parcels
+//! that calls returned.
 use crate::tests::texts::{
     asked_text, base_fault_text, body, doc, doc_text, expect_answer, node_text, numbers_text,
     parcel_text, tree_text, window_text,
@@ -19,7 +20,7 @@ pub(crate) enum Call<'a> {
     /// Put a document.
     Put(usize, &'a str),
     /// Edit a document, given the document's id, the parent revision (an empty string for no parent), the deleted flag,
-    /// and the body. The last parameter is the number of the local write, the origin of the new revision.
+    /// and the body. The last parameter is the number of the local write, which becomes the origin of the new revision.
     Edit(usize, &'a str, &'a str, bool, &'a str, u64),
     /// Copy a database, and store the copy as the test's next database. The copy has the given life (incarnation
     /// number), or the life of the copied database if no life is given.
@@ -28,7 +29,7 @@ pub(crate) enum Call<'a> {
     Numbers(usize),
     /// Read the life of a database, a number that changes when the database is restored.
     Life(usize),
-    /// Read the life of a window: the number that was the source database's life when the window was read.
+    /// Read the life (incarnation number) that the source database had when the window was read.
     WindowLife(usize),
     /// Read the tree of a document.
     Tree(usize, &'a str),
@@ -36,8 +37,8 @@ pub(crate) enum Call<'a> {
     Node(usize, &'a str, &'a str),
     /// Read the document at a revision.
     Document(usize, &'a str, &'a str),
-    /// Read a page of at most a given number of rows, above a sequence and up to a goal, and store the page as the next
-    /// window.
+    /// Read a page, given the sequence before the page, the goal and the maximum number of rows. Store the page as the
+    /// next window.
     Page(usize, u64, u64, u64),
     /// Compute a database's request for the leaves of a window that the database lacks, and store the request as the
     /// next request.
@@ -121,8 +122,8 @@ impl Bench {
     }
 }
 
-/// Returns, as a string, the life of the window at index `at`: the life of the database that produced the window (a
-/// number that changes when the database is restored).
+/// Returns, as a string, the life of the window at index `at`. A window has the life of the database that produced the
+/// window.
 fn window_life(alloc: Global, windows: &[Window], at: usize) -> Option<String> {
     match windows.get(at) {
         Some(window) => shown(alloc, &window.life()),
@@ -333,8 +334,7 @@ pub(crate) fn edit_text(alloc: Global, answer: Result<Rev, BaseFault>) -> Option
     }
 }
 
-/// Parses a parent. Returns `Some(None)` for an empty string (no parent), and `None` for a string that is not a
-/// revision.
+/// Parses a parent. An empty string (no parent) gives `Some(None)`. A string that is not a revision gives `None`.
 pub(crate) fn parent_of(text: &str) -> Option<Option<Rev>> {
     if text.is_empty() {
         return Some(None);

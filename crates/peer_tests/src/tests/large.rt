@@ -1,5 +1,5 @@
 //! The functions in this file call `replicate_alone` and functions of `Peer` with large values, such as documents with
-//! long ancestries. The contracts allow a call to return `Memory` even if no allocation fails, so tests must check that
+//! long ancestries. The contracts allow the error `Memory` even if no allocation fails. Tests must therefore check that
 //! calls with large values succeed.
 use crate::tests::databases::{edit_text, put_text};
 use crate::tests::plans::plan;
@@ -20,7 +20,7 @@ fn sig(alloc: Global, number: u32) -> Option<Sig> {
     Sig::parse(text.as_bytes()).ok()
 }
 
-/// Returns `length` revision signatures: the digits of the numbers from 0 to `length - 1`.
+/// Returns `length` revision signatures. The signatures are the numbers from 0 to `length - 1` in decimal digits.
 fn sigs(alloc: Global, length: u32) -> Option<Vec<Sig>> {
     let mut sigs = Vec::new(alloc);
     for number in 0..length {

@@ -10,8 +10,8 @@ const FOUR: Rows = &[
     (Call::Add(4, None), "3"),
 ];
 
-/// The revisions that edits with the body {"v":1} create. An edit without a parent revision creates the revision
-/// `FIRST`, and an edit whose parent is the revision 1-a creates the revision `SECOND`.
+/// The revisions that edits with the body {"v":1} create. An edit without a parent creates the revision `FIRST`, and an
+/// edit of the revision 1-a creates the revision `SECOND`.
 const FIRST: &str = "1-125e243b9a90308f8be767a220f77ae9";
 
 const SECOND: &str = "2-04e04b58ba493e5eb3fd86e7cf77b40e";
@@ -76,8 +76,7 @@ fn a_broken_chain_brings_nothing_to_its_end(rt: HostRuntime) {
             Call::Load(0, r#"{"_id":"d","_rev":"1-a"}"#),
             "Changed { seq: 1 }",
         ),
-        // The hop (replication) from peer 1 to peer 2 comes before peer 1 gets the document d from peer 0, so peer 2
-        // lacks d.
+        // The hop from peer 1 to peer 2 comes first, so peer 2 does not get the document d from peer 0.
         (Call::Along(&[(1, 2), (0, 1), (3, 2)]), "done"),
         (Call::Tree(1, "d"), "1-a of 1"),
         (Call::Tree(2, "d"), "no document"),
@@ -207,8 +206,7 @@ fn hops_that_are_refused(rt: HostRuntime) {
             Call::Load(0, r#"{"_id":"d","_rev":"1-a"}"#),
             "Changed { seq: 1 }",
         ),
-        // The changes that the hops before the failed hop made are kept, and the hops after the failed hop are not
-        // made.
+        // If a hop fails, the changes of earlier hops are kept, and no later hop is made.
         (Call::Along(&[(0, 1), (1, 1), (1, 2)]), "hop 1: SamePeer"),
         (Call::Tree(1, "d"), "1-a of 1"),
         (Call::Tree(2, "d"), "no document"),

@@ -31,8 +31,8 @@ pub(crate) enum Call<'a> {
     Along(&'a [Places]),
     /// Replicate along hops, with windows of one row and at most two windows for each replication.
     AlongTwoRows(&'a [Places]),
-    /// Replicate all peers through the hub, given the number of plans into the hub and the number of plans out of the
-    /// hub.
+    /// Replicate all peers through the hub. The arguments are the number of plans into the hub, and the number of plans
+    /// out of the hub.
     Hub(usize, usize),
     /// Audit a replication from the first peer, the source, into the second peer, the target.
     Audit(usize, usize),
@@ -127,7 +127,7 @@ impl Bench {
         }
     }
 
-    /// Creates the plan of the next session. If `stop_after` is given, each window of the session has one row.
+    /// Creates the plan of the next session. If `stop_after` is given, the session has windows of one row.
     fn next_plan(&mut self, stop_after: Option<u64>) -> Option<Plan> {
         self.session = self.session.saturating_add(1);
         let batch = if stop_after.is_some() { 1 } else { 500 };

@@ -10,7 +10,7 @@ const TARGET: usize = 1;
 
 const OTHER: usize = 2;
 
-/// The indices of the first three items in each of a test's lists: the windows, the requests and the parcels.
+/// The indices of a test's first three windows, requests and parcels.
 const FIRST: usize = 0;
 
 const SECOND: usize = 1;
@@ -43,8 +43,7 @@ const D: &str = r#"{"_id":"d","_rev":"1-a"}"#;
 /// is the MD5 of the parent, the kind and the body.
 const NEXT: &str = "2-1c600d37126a8e6d3c67d6f7a6a5c299";
 
-/// The parameters of a session of the replication `REP` that starts at sequence 0, has the goal 1, and has no base
-/// session.
+/// The parameters of a session of the replication `REP` from sequence 0 to the goal 1, without a base session.
 const TO_ONE: Beginning = Beginning {
     rep: REP,
     base: None,
@@ -52,8 +51,7 @@ const TO_ONE: Beginning = Beginning {
     goal: 1,
 };
 
-/// The parameters of a session of the replication `REP` that starts at sequence 0, has the goal 9, and has no base
-/// session.
+/// The parameters of a session of the replication `REP` from sequence 0 to the goal 9, without a base session.
 const TO_NINE: Beginning = Beginning {
     rep: REP,
     base: None,
@@ -61,8 +59,8 @@ const TO_NINE: Beginning = Beginning {
     goal: 9,
 };
 
-/// The parameters of a session of the replication `REP` that starts at sequence 1, has the goal 2, and has the first
-/// session as its base.
+/// The parameters of a session of the replication `REP` that continues the first session, from sequence 1 to the goal
+/// 2.
 const FROM_ONE: Beginning = Beginning {
     rep: REP,
     base: Some(S1),
@@ -142,8 +140,8 @@ fn a_refused_descendant_covers(rt: HostRuntime) {
         (Call::Covered(TARGET, "d", "1-a"), "true"),
         (Call::Record(TARGET, S1, 11), "1"),
     ];
-    // The target still has no tree of the document d, so its second session requests d, which the target's filter
-    // refuses again.
+    // The target still has no tree of the document d. The second session therefore requests d, and the target's filter
+    // refuses d again.
     const LAST: Rows = &[
         (
             Call::Diff(TARGET, SECOND),
@@ -310,8 +308,8 @@ fn a_session_from_beginning_to_end(rt: HostRuntime) {
         ),
     ];
     const THEN: Rows = &[
-        // The filter refuses the document `secret`. The document d is refused because the fetched ancestry contradicts
-        // the target's tree of d, in which 2-c has the parent 1-b.
+        // The filter refuses the document `secret`. The target refuses the document d, because 2-c has the parent 1-x
+        // in the fetched ancestry, but 1-b in the target's tree.
         (Call::Settle(TARGET, S1, FIRST), "written 1 failed 2"),
         (Call::Covered(TARGET, "secret", "1-a"), "true"),
         (Call::Covered(TARGET, "d", "3-d"), "true"),
@@ -325,8 +323,8 @@ fn a_session_from_beginning_to_end(rt: HostRuntime) {
             Call::Entry(TARGET, S1),
             "session 1 from 0 to 3 checked 3 found 3 read 3 written 1 failed 2, 10 to 20",
         ),
-        // The origin of an arrival (a document that a session merged) consists of the session and of the sequence of
-        // the document's row. The origin of a local write is the number of the write.
+        // The origin of an arrival has two parts: the session, and the sequence of the document's row in the feed. The
+        // origin of a local write is the number of the write.
         (
             Call::Node(TARGET, "x1", "1-a"),
             "no parent, Feed(SessionId(1), 1), live {}",
@@ -527,8 +525,8 @@ fn a_foreign_document_is_refused_before_a_done_window(rt: HostRuntime) {
     const ROWS: Rows = &[
         (Call::Fetch(SOURCE, FIRST), "0 to 1: d 1-a live {};"),
         (Call::Settle(TARGET, S1, FIRST), "written 1 failed 0"),
-        // Even if the window is done, settling returns `ForeignParcel` for a parcel with a document that has no row in
-        // the window.
+        // If the parcel has a document without a row in the window, settling returns `ForeignParcel`, even if the
+        // window is done.
         (Call::Load(OTHER, E), "Changed { seq: 1 }"),
         (Call::Page(OTHER, 0, 1), "0 to 1: 1 e 1-a;"),
         (Call::Diff(TARGET, SECOND), "0 to 1: e 1-a;"),
@@ -559,8 +557,8 @@ fn the_leaves_of_a_done_window_are_let_go(rt: HostRuntime) {
     expect(&rt, rt.alloc(), LISTS);
 }
 
-// The parcel of the peer `OTHER` has the leaf 1-b of d, which the window does not list. The window's leaf 1-a therefore
-// stays uncovered.
+// The parcel of the peer `OTHER` has the leaf 1-b of d, which the window does not list. The parcel does not cover the
+// window's leaf 1-a.
 #[test]
 fn a_parcel_of_another_leaf_leaves_its_window_uncovered(rt: HostRuntime) {
     const ROWS: Rows = &[
@@ -735,8 +733,8 @@ fn an_audit_is_clean(rt: HostRuntime) {
             Call::Conclude(TARGET, S1, 11),
             "session 1 from 0 to 1 checked 1 found 1 read 1 written 1 failed 0",
         ),
-        // The first audit runs when the logs of source and target have no common session. `PutEntryOf` makes the first
-        // session common to both logs.
+        // The first audit runs when the logs of source and target have no common session. After `PutEntryOf`, both logs
+        // have an entry of the first session.
         (Call::Audit(SOURCE, TARGET), "clean"),
         (Call::PutEntryOf(SOURCE, REP, TARGET, S1), "put"),
         (Call::Common(SOURCE, TARGET, REP), "1 at 1"),
@@ -753,7 +751,7 @@ fn an_audit_is_clean(rt: HostRuntime) {
 fn an_audit_finds_a_hole(rt: HostRuntime) {
     const E: &str = r#"{"_id":"e","_rev":"1-a"}"#;
     const ROWS: Rows = &[
-        // The session stores a window of the peer `OTHER`, which is not the source of the session's replication.
+        // The peer `OTHER` is not the source of the replication, but the session stores a window of this peer.
         (Call::Load(OTHER, E), "Changed { seq: 1 }"),
         (Call::Begin(TARGET, S1, TO_ONE, 10), "begun"),
         (Call::Page(OTHER, 0, 1), "0 to 1: 1 e 1-a;"),

@@ -1,5 +1,5 @@
-//! Calls on peers, and a test fixture that holds peers, their backups, and the pages, requests and parcels that calls
-//! returned.
+//! Performs calls on peers in a test fixture. The fixture holds the peers, their backups, and the pages, requests and
+//! parcels that calls returned.
 use crate::tests::databases::{
     Held, edit_text, keep_asked, keep_parcel, keep_window, made_text, node, parent_of, put_text,
     tree,
@@ -69,10 +69,11 @@ pub(crate) enum Call<'a> {
     Node(usize, &'a str, &'a str),
     /// Read the filter's verdict on a document.
     Verdict(usize, &'a str),
-    /// Read whether a peer covers a revision of a document. A peer covers a revision that is in the peer's tree of the
-    /// document, or in an ancestry of the same document in a session's ledger.
+    /// Read whether a peer covers a revision of a document. A peer covers a revision if the revision is in the
+    /// document's tree, or in an ancestry of the document in a session's ledger.
     Covered(usize, &'a str, &'a str),
-    /// Read a page of at most 500 rows, above a sequence and up to a goal, and store the page as the next window.
+    /// Read a page of at most 500 rows, given the sequence before the page and the goal. Store the page as the next
+    /// window.
     Page(usize, u64, u64),
     /// Compute the request for the leaves of a window that a peer lacks, and store the request as the next request.
     Diff(usize, usize),
@@ -112,8 +113,7 @@ pub(crate) enum Call<'a> {
     Audit(usize, usize),
     /// Check a plan between two peers, with a given maximum number of rows of a window.
     CheckPlan(usize, usize, u64),
-    /// Begin the session of a plan from the first peer (the source) into the second peer (the target), with a
-    /// timestamp.
+    /// Begin the session of a plan with a timestamp. The first peer is the source, and the second peer is the target.
     BeginPlan(SessionId, u64),
     /// Read the entry of a session of the second peer, and store the entry in the first peer's log.
     RecordAtSource(SessionId),
@@ -136,8 +136,8 @@ pub(crate) type Rows = &'static [(Call<'static>, &'static str)];
 
 /// Lists of calls that are performed in order.
 ///
-/// A test refers to a single static variable, which contains all lists of the test. If a test named several lists, the
-/// prover would process each of these lists separately.
+/// A test refers to a single static variable, which contains all lists of the test. If a test referred to several
+/// static variables, the prover would process each variable separately.
 pub(crate) type Lists = &'static [Rows];
 
 /// The peers of a test, the backups of the peers, and the windows, requests and parcels that calls returned.
@@ -244,7 +244,7 @@ fn of_one(alloc: Global, peer: &mut Peer<Rules>, held: &mut Held, call: &Call) -
     }
 }
 
-/// Performs a call that uses one peer, but no stored window, request or parcel.
+/// Performs a call on one peer that needs no stored window, request or parcel.
 fn of_one_alone(alloc: Global, peer: &mut Peer<Rules>, call: &Call) -> Option<String> {
     match *call {
         Call::Load(_, text) => load(alloc, peer, text),
@@ -403,8 +403,8 @@ fn fetched(alloc: Global, peer: &Peer<Rules>, asked: &Asked) -> Option<Parcel> {
     peer.open_revs(alloc, asked).ok()
 }
 
-/// Appends a copy of a window to a session. Returns `None` if `window` is `None`, because the test has no window with
-/// the index in the call.
+/// Appends a copy of a window to a session. If the test has no window with the index in the call, `window` is `None`,
+/// and `append` returns `None`.
 fn append(
     alloc: Global,
     peer: &mut Peer<Rules>,
@@ -649,8 +649,8 @@ fn verdict(alloc: Global, peer: &Peer<Rules>, text: &str) -> Option<String> {
     shown(alloc, &peer.filter().verdict(&doc))
 }
 
-/// Returns, as a string, whether a peer covers a revision of a document. A peer covers a revision that is in the peer's
-/// tree of the document, or in the ancestry of this document in a session's ledger.
+/// Returns, as a string, whether a peer covers a revision of a document. A peer covers a revision if the revision is in
+/// the document's tree, or in an ancestry of the document in a session's ledger.
 fn covered(alloc: Global, peer: &Peer<Rules>, id: &str, text: &str) -> Option<String> {
     let Ok(id) = DocId::parse(alloc, id) else {
         return None;
@@ -661,7 +661,7 @@ fn covered(alloc: Global, peer: &Peer<Rules>, id: &str, text: &str) -> Option<St
     shown(alloc, &peer.covered(&id, rev))
 }
 
-/// Returns, as a string, the windows (ranges of the source's changes feed) that the peer has stored for a session.
+/// Returns, as a string, the windows that the peer has stored for a session.
 fn windows(alloc: Global, peer: &Peer<Rules>, session: SessionId) -> Option<String> {
     match peer.windows(session) {
         Some(windows) => stored_text(alloc, windows),

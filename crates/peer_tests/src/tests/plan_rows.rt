@@ -114,7 +114,8 @@ fn an_older_entry_is_passed_over(rt: HostRuntime) {
         (Call::SourceLog(SOURCE, REP), "1 at 9;"),
         (Call::RecordAtSource(S1), "recorded"),
         (Call::SourceLog(SOURCE, REP), "1 at 9;"),
-        // The next session begins at the lesser of the sequences that source and target recorded for the first session.
+        // Source and target have recorded different sequences for the first session, and the next session begins at the
+        // lesser sequence.
         (Call::BeginPlan(S2, 13), "1"),
     ];
     static LISTS: Lists = &[THREE, FIRST_SESSION, ROWS];
@@ -127,7 +128,7 @@ fn a_walk_above_a_sequence(rt: HostRuntime) {
         (Call::HoleAbove(SOURCE, TARGET, 0), "hole 1 d 1-a"),
         (Call::HoleAbove(SOURCE, TARGET, 1), "hole 2 e 1-b"),
         (Call::HoleAbove(SOURCE, TARGET, 2), "clean"),
-        // The source's feed has no rows above sequence 9, so `HoleAbove` finds no uncovered leaf there.
+        // The source's feed has no rows above sequence 9, so `HoleAbove` finds no uncovered leaf.
         (Call::HoleAbove(SOURCE, TARGET, 9), "clean"),
         (Call::HoleAbove(SOURCE, SOURCE, 0), "clean"),
     ];

@@ -67,8 +67,8 @@ fn wait_for(told: &AtomicBool) -> bool {
     false
 }
 
-/// A gate (a callback) that blocks the writer of the first window after the window was settled, until a viewer has read
-/// the board.
+/// A gate (a callback) that blocks a writer after the first window was settled. The writer stays blocked until a viewer
+/// has read the board.
 #[derive(Drop)]
 struct HoldsSettled {
     held: AtomicBool,
@@ -197,7 +197,7 @@ fn board_for_four(alloc: Global, workers: usize) -> Option<(Board, Vec<BoardSeat
     Some((board, seats, (a, b, c, d)))
 }
 
-/// Reads the board repeatedly. Returns true if no total of the board decreased between two readings, and the total of
+/// Reads the board repeatedly, and checks the totals. Returns true if no total ever decreased, and if the total of
 /// settled documents never exceeded the total of read documents.
 fn sees_no_fall(board: &Board, viewer: BoardSeat) -> bool
     requires { CameWith board.now viewer }
@@ -289,8 +289,8 @@ fn progress_shown(rt: HostRuntime) {
     assert_eq!(rt; board.read(&mut viewer), (2, 2));
 }
 
-// The test detects a pool that updates the board only at the end of a run, because a viewer reads the board while the
-// writer is blocked.
+// A viewer reads the board while the writer is blocked. The test therefore detects a pool that updates the board only
+// at the end of a run.
 #[test]
 fn progress_seen_beside_a_held_writer(rt: HostRuntime) {
     let Some((board, seats, viewer)) = board_for(rt.alloc(), 2) else {

@@ -1,5 +1,5 @@
-//! Tests of replications with one or several workers (threads), in which a gate (a callback at each stage of a window)
-//! stops or blocks a worker.
+//! Tests of replications with one or several workers, in which a gate stops or blocks a worker. A gate is a callback
+//! that workers (threads) call at each stage of a window.
 use crate::tests::peers::Rep;
 use crate::tests::pool_rows::{CARRIED, DOCUMENTS, OPEN_PEERS};
 use crate::tests::pools::{Bench, Call, How, Rows};
@@ -63,8 +63,8 @@ fn hold(told: &AtomicBool, ran_out: &AtomicBool) {
     ran_out.store(true, Ordering::SeqCst);
 }
 
-/// A callback of the workers that blocks the fetcher of the first window until the second window is recorded.
-/// `HoldsFetched` stores the two sequences that workers record with the first window and with the second window.
+/// A gate (a callback) that blocks the fetcher of the first window until the second window is recorded. `HoldsFetched`
+/// also stores the sequence that is recorded after the first window, and after the second window.
 #[derive(Drop)]
 struct HoldsFetched {
     second: AtomicBool,
@@ -108,9 +108,8 @@ impl Gate for HoldsFetched {
 struct StopsOnce {
     kind: u64,
     window: u64,
-    /// The value that `Gate::may_block` returns. The callback `StopsOnce::at` never blocks a worker, even if
-    /// `may_block` is true. If `may_block` returns true, each worker is a separate thread, even if there are few
-    /// workers.
+    /// The return value of the method `Gate::may_block`. If the value is true, each worker is a separate thread, even
+    /// if there are few workers. The method `StopsOnce::at` never blocks a worker, even if the value is true.
     may_block: bool,
     stopped: AtomicBool,
 }
@@ -157,7 +156,7 @@ impl Gate for StopsOnce {
 }
 
 /// A callback of the workers that counts how often a run records its session. The windows of the run must have one row
-/// each. The field `other` says whether a worker recorded a low water other than the end of the worker's window.
+/// each. The field `other` is set if a worker records a low water that is not the end of the worker's window.
 #[derive(Drop)]
 struct CountsRecordings {
     count: AtomicU64,
@@ -178,8 +177,8 @@ impl Gate for CountsRecordings {
     }
 }
 
-// This test detects a writer that records only every second window, or that reports a low water other than the recorded
-// low water. No contract excludes a writer that records only every second window, or that reports a wrong low water.
+// No contract excludes a writer that records only every second window, or a writer that reports a wrong low water. This
+// test detects both kinds of wrong writers.
 #[test]
 fn each_recording_tells_the_low_water(rt: HostRuntime) {
     const ONE_BY_ONE: How = How {
@@ -210,8 +209,8 @@ fn windows_done_out_of_order(rt: HostRuntime) {
     assert_eq!(rt; gate.at_first.load(Ordering::SeqCst), 4);
 }
 
-// The stopped run has fetched two documents, but the session has read 0 documents. A run that returns the number of
-// read documents instead of the number of fetched documents fails the test.
+// The stopped run has fetched two documents, but the session has read 0 documents. The test fails if the run returns
+// the number of read documents instead of the number of fetched documents.
 #[test]
 fn fetched_is_counted_where_a_run_stops(rt: HostRuntime) {
     const HALTED: &str = "Halted(Fetched(0)), fetched 2";
@@ -232,7 +231,7 @@ fn fetched_is_counted_where_a_run_stops(rt: HostRuntime) {
     }
 }
 
-/// If a run stops at stage n of a window, the text of the run's result begins with item n of `STOPPED`, counted from 0.
+/// If a run stops at stage n, counted from 0, the run's result begins with the string at index n of `STOPPED`.
 static STOPPED: [&str; 5] = [
     "Halted(Took(",
     "Halted(Asked(",
@@ -281,7 +280,7 @@ pub(crate) fn go_on<R: Abort + Threads + Wait + Sync>(rt: &R, alloc: Global, ben
 }
 
 /// Performs a run that a callback stops at the stage `kind` of the window `window`, and a second run that completes the
-/// replication. The parameter `may_block` is the value that `Gate::may_block` returns.
+/// replication. The parameter `may_block` is the return value of the callback's method `may_block`.
 fn stop_and_go_on<R: Abort + Threads + Wait + Sync>(
     rt: &R,
     alloc: Global,
@@ -299,8 +298,8 @@ fn stop_and_go_on<R: Abort + Threads + Wait + Sync>(
     bench.run(rt, CARRIED);
 }
 
-// The test's runs use two fetcher threads and two writer threads, or two threads that fetch and write in turn, or only
-// the caller's thread.
+// The runs have three forms: two fetcher threads and two writer threads, two threads that both fetch and write, and
+// only the caller's thread.
 #[test]
 fn a_stop_at_each_place(rt: HostRuntime) {
     for kind in 0..5u64 {
@@ -319,8 +318,8 @@ static FULL: Rows = &[
     (Call::Fill(A, 20), "Changed { seq: 20 }"),
 ];
 
-// The two channels of the pool together hold eight windows. A writer that ended after an error would satisfy the
-// writer's contract, but the fetchers would wait for the writer forever.
+// The pool's two channels together hold eight windows or parcels. If a writer ended after an error, the writer would
+// satisfy its contract, but the fetchers would wait forever.
 #[test]
 fn more_windows_than_channels_hold(rt: HostRuntime) {
     const ONE_BY_ONE: How = How {

@@ -1,6 +1,6 @@
 //! Tests of replications with two gates (callbacks that one or several workers call at each stage of a window). The
-//! callback `Counts` counts how often workers call it. The callback `Orders` blocks a worker at a stage of a window
-//! until another worker has reached a stage that a table names.
+//! callback `Counts` counts how often workers call it. The callback `Orders` blocks a worker until another worker has
+//! reached a certain stage. A table lists the pairs of stages.
 use crate::tests::pool_gates::kind_of;
 use crate::tests::pools::{Bench, Call, How, Rows};
 use crate::tests::texts::expect_answer;
@@ -33,8 +33,8 @@ const fn in_windows_of(batch: u64) -> How {
 struct Counts {
     places: Vec<AtomicU64>,
     strays: AtomicU64,
-    /// The value that `Gate::may_block` returns. The callback `Counts::at` never blocks a worker, even if `may_block`
-    /// is true. If `may_block` returns true, each worker is a separate thread, even if there are few workers.
+    /// The return value of the method `Gate::may_block`. If the value is true, each worker is a separate thread, even
+    /// if there are few workers. The method `Counts::at` never blocks a worker, even if the value is true.
     may_block: bool,
 }
 
@@ -52,7 +52,7 @@ impl Counts {
         }
     }
 
-    /// Returns the number of windows for which workers called the callback five times (a window has five stages).
+    /// Returns the number of windows for which workers called the callback five times. A window has five stages.
     fn gone_through(&self) -> usize {
         let mut windows = 0usize;
         for places in &self.places {
@@ -85,7 +85,7 @@ impl Gate for Counts {
 }
 
 /// Asserts that the workers of a run call their callback exactly once at each stage of each window, in order. The
-/// parameter `may_block` is the value that `Gate::may_block` returns.
+/// parameter `may_block` is the return value of the callback's method `may_block`.
 fn expect_in_order<R: Abort + Threads + Wait + Sync>(
     rt: &R,
     alloc: Global,
@@ -113,9 +113,9 @@ fn expect_in_order<R: Abort + Threads + Wait + Sync>(
     assert_eq!(rt; bench.fetchers() as u64, workers);
 }
 
-// A call of the callback at a stage of a window is in order if each earlier stage of the window had one call. The
-// test's runs use four fetcher threads and four writer threads, or four threads that fetch and write in turn, or only
-// the caller's thread.
+// The calls for a window are in order if the callback is called once for each stage, from the first stage to the last.
+// The runs have three forms: four fetcher threads and four writer threads, four threads that both fetch and write, and
+// only the caller's thread.
 #[test]
 fn each_place_once_and_in_order(rt: HostRuntime) {
     expect_in_order(&rt, rt.alloc(), 4, true);
@@ -126,11 +126,11 @@ fn each_place_once_and_in_order(rt: HostRuntime) {
 /// A stage of a window: the number of the stage, from 0, and the number of the window.
 type Spot = (u64, u64);
 
-/// A list of pairs, in which each item of a pair is a stage of a window. A worker that reaches the first stage of a
-/// pair waits until another worker has reached the second stage of the pair.
+/// A list of pairs, in which each item of a pair is a stage of a window. At the first stage of a pair, a worker waits
+/// until another worker has reached the second stage.
 type Holds = &'static [(Spot, Spot)];
 
-/// Returns the bit that represents a stage of one of the first twelve windows.
+/// Returns the bit for a stage of a window. The stages of the first twelve windows have different bits.
 pub(crate) fn bit_of(spot: Spot) -> u64 {
     let place = spot.0 % 5 + 5 * (spot.1 % 12);
     1 << place
@@ -139,8 +139,8 @@ pub(crate) fn bit_of(spot: Spot) -> u64 {
 /// The maximum number of times a blocked worker polls.
 const TURNS: u32 = 1_000_000;
 
-/// A callback that makes a worker at the first stage of a pair in `holds` wait until another worker has reached the
-/// pair's second stage.
+/// A callback that makes workers wait for each other. For each pair in `holds`, a worker waits at the first stage until
+/// another worker has reached the second stage.
 #[derive(Drop)]
 struct Orders {
     holds: Holds,
@@ -187,8 +187,8 @@ impl Gate for Orders {
     }
 }
 
-/// Performs a run of eight documents in windows of two rows, with one fetcher and one writer. The callback `Orders`
-/// blocks the fetcher and the writer at the stages in `holds`.
+/// Performs a run of eight documents in windows of two rows, with one fetcher and one writer. The list `holds` says at
+/// which stages the fetcher and the writer wait for each other.
 fn run_held<R: Abort + Threads + Wait + Sync>(rt: &R, alloc: Global, holds: Holds) {
     const WELL: &str =
         "session 1 from 0 to 8 checked 8 found 8 read 8 written 8 failed 0, fetched 8";
@@ -196,8 +196,8 @@ fn run_held<R: Abort + Threads + Wait + Sync>(rt: &R, alloc: Global, holds: Hold
         (Call::Peer(1, None), "made"),
         (Call::Peer(2, None), "made"),
         (Call::Fill(A, 8), "Changed { seq: 8 }"),
-        // If the target had no documents, the pool would compute requests without the target's lock, so the target
-        // first gets the document `own`.
+        // If the target's update sequence is 0, the pool computes requests without the target's lock. The document
+        // `own` raises the update sequence to 1.
         (
             Call::Load(B, r#"{"_id":"own","_rev":"1-a"}"#),
             "Changed { seq: 1 }",
@@ -226,8 +226,7 @@ const SETTLED: u64 = 3;
 
 const RECORDED: u64 = 4;
 
-// Workers take the target's lock for requesting, settling and recording. The run can end only if no blocked worker
-// holds the lock.
+// Workers lock the target when they request, settle and record. The test fails if a blocked worker holds the lock.
 #[test]
 fn no_lock_is_held_at_any_place(rt: HostRuntime) {
     static HOLDS: Holds = &[

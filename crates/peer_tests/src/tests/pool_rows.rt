@@ -122,8 +122,8 @@ pub(crate) static CARRIED: Rows = &[
     (Call::Leaves(B, "x2"), LEAVES_X2),
 ];
 
-/// Calls that read both peers after the first session of a replication whose target refuses two documents. The results
-/// of the calls `SIFTED` do not depend on the order in which the session's windows become done.
+/// Calls that read both peers after the first session of a replication whose target refuses two documents. The calls
+/// `SIFTED` have the same results for every order in which the session's windows become done.
 pub(crate) static SIFTED: Rows = &[
     (
         Call::Entry(B, S1),

@@ -36,14 +36,13 @@ const WORKERS: u64 = 2;
 /// The number of stages of windows in a run: five for each of the three windows.
 const PLACES: u64 = 15;
 
-/// Bit masks. `FETCHED` has a bit for the stage `Fetched` of each window, and `RECORDED` has a bit for the stage
-/// `Recorded` of each window.
+/// Bit masks. The mask `FETCHED` has the bits of the stages `Fetched`, and the mask `RECORDED` has the bits of the
+/// stages `Recorded`.
 const FETCHED: u64 = 0b001_0000_1000_0100;
 
 const RECORDED: u64 = 0b100_0010_0001_0000;
 
-/// The number of sleeps of blocked workers after which the callback `Drawn` releases one of them without waiting for
-/// further workers.
+/// The number of sleeps after which the callback `Drawn` stops waiting for further blocked workers.
 const SURE_NAPS: u32 = 20_000;
 
 /// The maximum number of times a blocked worker checks whether it is released.
@@ -61,7 +60,7 @@ fn bits(number: u64) -> u64 {
     u64::from(number.count_ones())
 }
 
-/// Returns the number of the n-th stage, counted from 0, at which a worker is blocked. The stages of all windows are
+/// Returns the number of the stage at index `nth` among the stages with a blocked worker. The stages of all windows are
 /// numbered from 0, window by window.
 fn nth_held(held: u64, nth: u64) -> u64 {
     let mut passed = 0u64;
@@ -76,36 +75,36 @@ fn nth_held(held: u64, nth: u64) -> u64 {
     0
 }
 
-/// The state of the callback `Drawn`: which stages of windows have a blocked worker, which stages workers have left,
-/// and which worker may run.
+/// The state of the callback `Drawn`. The state says at which stages workers are blocked, which stages workers have
+/// left, and which worker may run.
 #[derive(Clone, Copy)]
 struct Turns {
     /// The state of the random generator that chooses the next worker.
     chance: u64,
     held: u64,
     left: u64,
-    /// The bit (`bit_of`) of the stage whose blocked worker may run, or 0 if no worker is chosen.
+    /// The bit (`bit_of`) of the stage at which the chosen worker is blocked, or 0 if no worker is chosen.
     chosen: u64,
-    /// The total number of sleeps of blocked workers since a worker was last blocked or released.
+    /// The number of times that blocked workers have slept since a worker was last blocked or released.
     naps: u32,
     /// The bit (`bit_of`) of the stage at which a worker is stopped, or 0 if no worker is stopped.
     stop_at: u64,
-    /// The order in which workers were chosen to run: a hexadecimal digit for each chosen worker. A chosen worker's
-    /// digit is 1 plus the number of the worker's stage, counted from 0 over all windows.
+    /// The order in which workers were chosen to run: a hexadecimal digit for each chosen worker. A worker's digit is
+    /// the number of the worker's stage, counted from 1 over all windows.
     order: u64,
     ran_out: bool,
 }
 
 impl Turns {
-    /// Returns a lower and an upper bound of the number of workers that will be blocked in the callback if it releases
-    /// no worker.
+    /// Returns a lower and an upper bound for the number of workers that will be blocked in the callback if no worker
+    /// is released.
     ///
     /// A fetcher has a window until the fetcher has passed the stage `Fetched`. A writer has a parcel until the writer
-    /// has passed the stage `Recorded`. A fetcher that finds no further window sends an end message to a writer,
-    /// perhaps while another fetcher still has the last window. After the run's three windows are fetched and one is
-    /// recorded, one of the two writers may have ended because of an end message. If one of the two writers has ended,
-    /// the remaining writer handles all remaining windows. If the callback stops a worker, this worker drops all
-    /// further messages.
+    /// has passed the stage `Recorded`. If a fetcher finds no further window, it sends an end message to a writer, and
+    /// another fetcher may still have the last window. After all three windows are fetched and one window is recorded,
+    /// an end message may already have ended one of the two writers. If one of the two writers has ended, the remaining
+    /// writer handles all remaining windows. After the callback has stopped a worker, the worker drops all further
+    /// messages.
     fn awaited(&self) -> (u64, u64) {
         let fetched = bits(self.left & FETCHED);
         let recorded = bits(self.left & RECORDED);
@@ -122,10 +121,10 @@ impl Turns {
     }
 
     /// Chooses one of the blocked workers at random, and returns whether a worker was chosen. The counter `naps` is the
-    /// total number of sleeps of blocked workers since a worker was last blocked or released. While `naps` is 0,
-    /// `choose` chooses a worker only if all workers that may call the callback are blocked in it. While `naps` is
-    /// below `SURE_NAPS`, `choose` chooses a worker only if all workers that will certainly call the callback are
-    /// blocked in it.
+    /// number of times that blocked workers have slept since a worker was last blocked or released. While `naps` is 0,
+    /// a worker is chosen only if the number of blocked workers has reached the upper bound of `awaited`. While `naps`
+    /// is below `SURE_NAPS`, a worker is chosen only if the number of blocked workers has reached the lower bound of
+    /// `awaited`.
     fn choose(&mut self) -> bool {
         let held = bits(self.held);
         if held == 0 {
@@ -147,8 +146,8 @@ impl Turns {
         true
     }
 
-    /// Returns whether the worker at the stage `here` is released, and whether `look` has chosen the worker that is
-    /// released next.
+    /// Returns two Booleans: whether the worker at the stage `here` is released, and whether `look` has chosen the next
+    /// worker.
     fn look(&mut self, here: u64) -> (bool, bool) {
         let goes = self.chosen == here;
         if goes {
@@ -173,14 +172,14 @@ impl Turns {
     }
 }
 
-/// A callback that blocks all workers, and releases one randomly chosen worker at a time. `Drawn` stops the worker that
-/// reaches the stage `stop_at`.
+/// A callback that blocks all workers, and releases one randomly chosen worker at a time. If a worker reaches the stage
+/// `stop_at`, the callback stops this worker.
 #[derive(Drop)]
 struct Drawn {
     stop_at: u64,
     turns: Mutex<Turns>,
-    /// A counter of the workers that were chosen to run. Blocked workers sleep until the counter changes or a
-    /// millisecond has passed.
+    /// A counter of the workers that were chosen to run. A blocked worker sleeps until the counter changes, but at most
+    /// a millisecond.
     bell: AtomicU64,
     ran_out: AtomicBool,
 }
@@ -210,7 +209,7 @@ impl Drawn {
         self.turns.lock(rt).come(here);
     }
 
-    /// Whether the worker that is blocked at the stage `here` of a window is released now.
+    /// Whether the callback now releases the worker at the stage `here` of a window.
     fn goes<R: Wait>(&self, rt: &R, here: u64) -> bool {
         let (goes, chose) = self.turns.lock(rt).look(here);
         if chose {
@@ -242,9 +241,9 @@ impl Drawn {
         self.ran_out.store(true, Ordering::SeqCst);
     }
 
-    /// Returns the order in which workers were chosen to run, and whether a wait took too long. A wait took too long if
-    /// blocked workers slept `SURE_NAPS` times waiting for another worker, or if one worker checked `LOOKS` times for
-    /// its release.
+    /// Returns the order in which workers were chosen to run, and whether a wait took too long. A wait takes too long
+    /// if blocked workers sleep `SURE_NAPS` times while they wait for another worker, or if one worker checks `LOOKS`
+    /// times whether it is released.
     fn end(self) -> (u64, bool) {
         let turns = self.turns.into_inner();
         (turns.order, turns.ran_out || self.ran_out.into_inner())
@@ -282,7 +281,7 @@ fn run_drawn<R: Abort + Threads + Wait + Sync>(rt: &R, alloc: Global, seed: u64)
     order
 }
 
-/// Returns the number of distinct numbers in a sorted list without 0.
+/// Returns how many different numbers a sorted list has. The list must not contain 0.
 fn different(sorted: &[u64]) -> u64 {
     let mut found = 0u64;
     let mut last = 0;
@@ -299,9 +298,9 @@ fn different(sorted: &[u64]) -> u64 {
 /// busy machine.
 const SEEDS: u64 = 250;
 
-/// Performs one run for each of `SEEDS` seeds, and asserts that the runs have more than `SEEDS` / 2 different orders.
-// The order in which the workers of a run are released affects only the sequences of the documents at the target. All
-// values that the calls `SIFTED` read after a run are the same for every order of the workers.
+/// Performs `SEEDS` runs with different seeds, and asserts that the runs have more than `SEEDS` / 2 different orders.
+// The order in which the workers of a run are released affects only the sequences of the documents at the target. The
+// calls `SIFTED` read the same values after a run for every order of the workers.
 fn run_orders<R: Abort + Threads + Wait + Sync>(rt: &R, alloc: Global, first: u64) {
     let mut orders = Vec::new(alloc);
     for number in 0..SEEDS {
@@ -348,7 +347,7 @@ fn stop_drawn<R: Abort + Threads + Wait + Sync>(rt: &R, alloc: Global, seed: u64
     assert!(rt; !ran_out, "out of turns at {seed}");
 }
 
-/// Performs 150 runs with different seeds, of which ten stop at each of the 15 stages of windows.
+/// Performs 150 runs with different seeds, ten for each of the 15 stages at which a run can stop.
 fn stop_orders<R: Abort + Threads + Wait + Sync>(rt: &R, alloc: Global, first: u64) {
     for number in 0..150u64 {
         stop_drawn(rt, alloc, first.saturating_add(number));

@@ -1,4 +1,5 @@
-//! Calls on peers that one or several threads replicate, and the test fixture that holds the peers of a test.
+//! Performs calls on the peers of a test, such as replications with one or several threads. The test fixture holds the
+//! peers.
 ghost use Rattle.std.specs.Prelude.{◌≡◌, vec_len};
 ghost use Rattle.std.specs.List.{All};
 ghost use Rattle.pool_workers.specs.Boards.{WorksAt};
@@ -149,7 +150,7 @@ impl Bench {
         })
     }
 
-    /// Takes the peer at an index out of the list of the test's peers, and leaves an empty peer there.
+    /// Removes the peer at an index from the test's list of peers, and stores an empty peer at this index.
     fn taken(&mut self, rt: &impl Abort, at: usize) -> Peer<Rules> {
         let empty = Peer::new(self.alloc, 0, Rules { deny: None });
         mem::replace(self.peers.get_mut(at).expect(rt, "a peer"), empty)
@@ -180,7 +181,7 @@ impl Bench {
     }
 
     /// Replicates one peer into another, and shows the progress of the run on the progress board `board`. The list
-    /// `seats` must have a seat (an access token for the board) for each worker of the plan.
+    /// `seats` must have one seat for each worker of the plan. A seat is an access token for the board.
     pub(crate) fn replicate_on<G: Gate + Sync, R: Abort + Threads + Wait + Sync>(
         &mut self,
         rt: &R,
@@ -263,7 +264,7 @@ fn compare(
 }
 
 /// Runs the pool. The call of `run` is in a separate function, because the proof grows with each variable that is live
-/// together with the peers.
+/// at the call.
 fn ran<G: Gate + Sync, R: Threads + Wait + Sync>(
     rt: &R,
     alloc: Global,

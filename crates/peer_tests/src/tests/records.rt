@@ -96,8 +96,8 @@ pub(crate) fn fault_text(alloc: Global, fault: TargetFault) -> Option<String> {
     }
 }
 
-/// Returns the text of a partial settling: the number of settled documents, the documents that were not settled, and
-/// the cause.
+/// Returns the text of a partial settling. The text has the number of settled documents, the ids of the documents that
+/// were not settled, and the cause.
 fn stopped_text(alloc: Global, settled: u64, rest: &[Doc], cause: Cause) -> Option<String> {
     let Some(rest) = ids_text(alloc, rest) else {
         return None;

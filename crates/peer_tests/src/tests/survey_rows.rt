@@ -22,8 +22,7 @@ fn what_a_target_misses(rt: HostRuntime) {
         (Call::Compare("e"), "1 missing 1-a differing"),
         // The document f exists neither at the source nor at the target.
         (Call::Compare("f"), "0 missing differing"),
-        // The source and the target have different parents of the revision 2-b, and different bodies of the revision
-        // 2-c.
+        // The revision 2-b has different parents at source and target, and the revision 2-c has different bodies.
         (
             Call::Target(r#"{"_id":"d","_revisions":{"start":2,"ids":["b","x"]}}"#),
             "Changed { seq: 1 }",
@@ -65,7 +64,7 @@ fn a_gap_is_neither_missing_nor_other(rt: HostRuntime) {
             Call::Source(r#"{"_id":"d","_revisions":{"start":3,"ids":["c","b","a"]}}"#),
             "Changed { seq: 1 }",
         ),
-        // The target has the source's leaf 3-c without the leaf's parent, and a child of 3-c.
+        // The target has the source's leaf 3-c and a child of 3-c, but not the parent of 3-c.
         (
             Call::Target(r#"{"_id":"d","_revisions":{"start":4,"ids":["d","c"]}}"#),
             "Changed { seq: 1 }",

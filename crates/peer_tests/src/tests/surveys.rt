@@ -19,7 +19,7 @@ use test_support::{rev_text, shown};
 /// The only session.
 const SESSION: SessionId = SessionId(1);
 
-/// A call on a source, on a target into which the source is replicated, or on both.
+/// A call on the source of a replication, on the target, or on both.
 #[derive(Clone, Copy)]
 pub(crate) enum Call<'a> {
     /// Load a document into the source.
@@ -205,8 +205,8 @@ fn revs_text(alloc: Global, revs: &[Rev]) -> Option<String> {
     all
 }
 
-/// Returns the text of a comparison: the number of leaves, the missing leaves, the contradicting child, and the
-/// differing leaves.
+/// Returns the text of a comparison. The text has the number of leaves, the missing leaves, the contradicting revision,
+/// and the leaves with different contents.
 fn comparison_text(alloc: Global, found: &Comparison) -> Option<String> {
     let all = joined(leaves_text(alloc, found), revs_text(alloc, found.missing()));
     let all = joined(all, contradiction_text(alloc, found));
@@ -239,7 +239,7 @@ fn row_text(alloc: Global, row: LedgerRow) -> Option<String> {
     }
 }
 
-/// Returns, for each row of a ledger, the text of the document's id and then the text of the row.
+/// Returns the text of a ledger. For each row, the text has the document's id and the row's text.
 fn ledger(alloc: Global, rows: &[Refused]) -> Option<String> {
     let mut all = Some(String::new(alloc));
     for row in rows {

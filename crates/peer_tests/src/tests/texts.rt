@@ -172,8 +172,8 @@ fn parent_text(alloc: Global, tree: &Tree, rev: Rev) -> Option<String> {
     }
 }
 
-/// Returns the text of a revision's origin (the write that added the revision) between commas, or `None` if `origin` is
-/// `None`.
+/// Returns the origin of a revision (the write that added the revision) as text between commas. If `origin` is `None`,
+/// returns `None`.
 fn origin_text(alloc: Global, origin: Option<Origin>) -> Option<String> {
     match origin {
         Some(origin) => format!(in alloc; ", {origin:?}, ").ok(),

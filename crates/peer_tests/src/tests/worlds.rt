@@ -29,8 +29,8 @@ pub(crate) enum Act<'a> {
     LoadSource(&'a str),
     ThirdParty(&'a str),
     ReadLog,
-    /// Begin a session from a log in the message bag (the messages in transit), given the index of the log and the goal
-    /// of the session.
+    /// Begin a session from a log. The parameters are the log's index among the messages in transit, and the session's
+    /// goal.
     Begin(SessionId, usize, u64),
     Page(u64, u64, u64),
     Append(SessionId, usize),
@@ -225,7 +225,7 @@ fn answer(alloc: Global, world: &World<Rules>, question: Question) -> Option<Str
     }
 }
 
-/// Performs steps in `world`, and asserts that each question of `told` has the expected result after the steps.
+/// Performs steps in `world`, and then asserts that each question in `told` has its expected result.
 fn tell(rt: &impl Abort, alloc: Global, world: &mut World<Rules>, lists: &[Acts], told: Told) {
     for acts in lists {
         if take(alloc, world, acts).is_none() {
@@ -248,8 +248,7 @@ fn world(rt: &impl Abort, alloc: Global) -> World<Rules> {
     World::new(alloc, source, target, None).expect(rt, "two peers")
 }
 
-/// Performs lists of steps on two empty peers, and asserts that each question of `told` has the expected result after
-/// the steps.
+/// Performs lists of steps on two empty peers, and then asserts that each question in `told` has its expected result.
 pub(crate) fn expect(rt: &impl Abort, alloc: Global, lists: &[Acts], told: Told) {
     let mut world = world(rt, alloc);
     tell(rt, alloc, &mut world, lists, told);

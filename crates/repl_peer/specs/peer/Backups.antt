@@ -21,8 +21,8 @@ pub record BackupValue : Type 0 where
 abbrev pub peer_of : BackupValue → PeerValue
 peer_of b = record { db = b.db; locals = b.locals; sessions = []; outgoing = b.outgoing }
 
--- The invariant of a backup. Each revision of a backup comes from a local write. If the generations of a local write's
--- revisions fall by one per revision, the revisions are a chain of parents in the document's tree (`StandsIn`).
+-- The invariant of a backup. Each revision of a backup comes from a local write. If the generations of a local write
+-- fall by one per revision, consecutive revisions are child and parent in the document's tree (`StandsIn`).
 pub record IsBackup (b : BackupValue) : Type 0 where
   pub origins : HasOrigins (peer_of b)
   pub locals : (a : WrittenValue) → Among a b.locals → StandsIn b.db a

@@ -58,8 +58,7 @@ pub record Leaf : Type 0 where
   pub id : Id
   pub rev : RevId
 
--- In one row of the changes feed, the first leaf for which the test `known` (a function of a document id and a
--- revision) is false.
+-- The first leaf of a feed row for which the test `known`, a function of a document id and a revision, is false.
 abbrev pub unknown_in : (Id → RevId → Bool) → RowValue → Option Leaf
 unknown_in known row =
     option_map (λ rev. record { seq = row.seq; id = row.id; rev = rev })
@@ -69,12 +68,12 @@ abbrev pub first_unknown : (Id → RevId → Bool) → List RowValue → Option 
 first_unknown known [] = None
 first_unknown known (row ∷ rows) = option_or (unknown_in known row) (first_unknown known rows)
 
--- The first leaf that peer p does not cover, in the order of the given feed rows. Peer p does not cover a leaf if the
--- leaf is neither in p's tree of the document, nor in an ancestry of the document in p's ledgers.
+-- The first leaf that peer p does not cover, in the order of the given feed rows. Peer p covers a leaf exactly if the
+-- leaf is in p's tree of the document, or in the document's ancestry in a ledger of p.
 abbrev pub first_uncovered : PeerValue → List RowValue → Option Leaf
 first_uncovered p rows = first_unknown (covers p) rows
 
--- In the windows of session s, peer p covers every leaf of every row whose sequence is at most the number n.
+-- Peer p covers each leaf in the windows of session s if the sequence of the leaf's row is at most n.
 abbrev pub Honest : PeerValue → SessionValue → ℕ → Type 0
 Honest p s n =
     (w : WindowValue) → Among w s.windows → (row : RowValue) → Among row w.rows → row.seq ≤ n → (leaf : RevId)

@@ -25,8 +25,8 @@ with_edited db locals id deleted body (Err fault) = locals
 abbrev pub with_edit : DatabaseValue → List WrittenValue → Id → Option RevId → Bool → List ℕ → List WrittenValue
 with_edit db locals id parent deleted body = with_edited db locals id deleted body (edited db id parent deleted body)
 
--- The parent of an accepted edit: the named parent, or, if the edit names no parent and the document exists, the
--- document's winner.
+-- The parent of an accepted edit: the parent that the edit names, or else the winner of the document, if the document
+-- exists.
 abbrev pub stood_on : Option TreeValue → Option RevId → Option RevId
 stood_on tree (Some parent) = Some parent
 stood_on None None = None

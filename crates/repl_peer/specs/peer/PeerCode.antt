@@ -74,7 +74,7 @@ Windows = FrontValue × (List WindowValue × ℕ)
 abbrev Brought : Type 0
 Brought = List WrittenValue × List RefusedValue
 
--- In the encoding of a session, a pair of the type `Counted` has the session's counts and the session's two timestamps.
+-- The type `Counted` is the part of an encoded session that has the session's counts and the session's two timestamps.
 abbrev Counted : Type 0
 Counted = Counts × (ℕ × ℕ)
 

@@ -7,7 +7,8 @@ use Rattle.rev_core.specs.Ancestry.{FallsByOne}
 use Rattle.couch_base.specs.Database.{DatabaseValue, tree_of}
 use Rattle.repl_peer.specs.peer.Peer.{WrittenValue}
 
--- In the map `parents`, the parent of each revision of a list is the list's next revision, if there is a next revision.
+-- In the map `parents`, the parent of each revision of a list, except the last revision, is the next revision of the
+-- list.
 abbrev pub Follows : FinMap rev_cmp RevId → List RevId → Type 0
 Follows parents [] = Unit {0}
 Follows parents (r ∷ []) = Unit {0}

@@ -16,8 +16,7 @@ abbrev pub read_in : List SessionValue → SessionId → ℕ
 read_in sessions id = read_of (session_in sessions id)
 
 -- The number that is added to a session's count of read documents when the session settles a parcel of n documents. The
--- session adds n if all n documents of the parcel were settled, m if settling stopped after m documents, and otherwise
--- 0.
+-- count grows by n if all n documents were settled, by m if settling stopped after m documents, and otherwise by 0.
 abbrev pub taken : Result Settled TargetFault → ℕ → ℕ
 taken (Ok settled) n = n
 taken (Err (faults.Uncovered seq id rev)) n = n

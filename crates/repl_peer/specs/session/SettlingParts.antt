@@ -26,7 +26,8 @@ use Rattle.repl_peer.specs.declared.session.ledger_index.LedgerIndex.{LedgerInde
 abbrev pub known_of : DatabaseValue → LedgerIndex → Id → RevId → Bool
 known_of db index id r = has (tree_of db.docs id) r || is_ledgered index id r
 
--- The new ledger index has exactly the revisions of the old ledger index and of the documents in the list `ledger`.
+-- The ledger index `new` has exactly the revisions of the index `old`, and the revisions of the documents in the list
+-- `ledger`.
 abbrev pub IndexesMore : LedgerIndex → List RefusedValue → LedgerIndex → Type 0
 IndexesMore old ledger new =
     (id : Id) (r : RevId) → is_ledgered new id r ≡ (is_ledgered old id r || in_ledger ledger id r)

@@ -17,8 +17,8 @@ abbrev pub IsThinnedWhereDone : FrontValue → List StoredWindowValue → Type 0
 IsThinnedWhereDone front stored =
     (v : StoredWindowValue) → Among v stored → v.whole ≡ false → is_done front v.window.lo v.window.hi ≡ true
 
--- A list of stored windows changes from `old` to `new`. In this change, only the window at index `place` may have lost
--- the leaves of its rows.
+-- A list of stored windows changes from `old` to `new`. A window that `new` stores without leaves has the same form in
+-- `old`, or is the window at index `place`.
 abbrev pub IsThinner : ℕ → List StoredWindowValue → List StoredWindowValue → Type 0
 IsThinner place old new =
     (v : StoredWindowValue) → Among v new → v.whole ≡ false

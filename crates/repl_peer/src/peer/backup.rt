@@ -21,8 +21,8 @@ pub struct Backup {
     pub(crate) outgoing: Logs,
 }
 
-// `Backup` implements `Drop` itself, because each crate that owns a `Backup` would have to prove the code that
-// `#[derive(Drop)]` generates (docs/DECISIONS.md, "Letting values go").
+// `Backup` implements `Drop` by hand. With `#[derive(Drop)]`, each crate that owns a `Backup` would have to prove the
+// derived code again (docs/DECISIONS.md, "Letting values go").
 impl Drop for Backup {
     fn drop(self) {
         let Backup {
@@ -87,9 +87,8 @@ impl<F: WriteFilter> Peer<F> {
         })
     }
 
-    /// Replaces the database, the local writes and the outgoing logs of a peer by the values in a backup. After the
-    /// restore, the database's life (a number) is 1 plus the greater of the database's earlier life and the backup's
-    /// life.
+    /// Replaces the peer's database, local writes and outgoing logs with the values in a backup. After the restore, the
+    /// database's life (a number) is 1 plus the greater of the database's earlier life and the backup's life.
     ///
     /// # Errors
     ///
@@ -108,7 +107,7 @@ impl<F: WriteFilter> Peer<F> {
         ensures law { Lawful (F.refuses self.new.0) self.new.1 }
     {
         let life = self.next_life(backup)?;
-        // The call of `backup.db()` is only needed for its contract, which states that the backup satisfies the
+        // Only the proof needs the call of `backup.db()`: the contract of `db` states that the backup satisfies the
         // invariant of backups.
         let _copy = backup.db();
         self.law();

@@ -8,7 +8,7 @@ ghost use Rattle.rev_core.specs.RevOrder.{coded_rev};
 use rev_core::Rev;
 use std::marker::Model;
 
-/// The revisions of a write, newest first: a zero-size value that contracts see and the program cannot read.
+/// The revisions of a write, newest first. Only contracts can read this value, which has size zero at run time.
 #[derive(Drop)]
 pub(crate) struct GhostRevs {
     pub(crate) ghost revs: { List RevId } by { coded_list coded_rev },
@@ -18,8 +18,8 @@ impl Model for GhostRevs {
     ghost also_owns = { λ _. ftrue };
 }
 
-// The compiler does not implement `Send` and `Sync` automatically for a type whose `Model` defines `also_owns`.
-// `GhostRevs` owns nothing.
+// If a type's `Model` defines `also_owns`, the compiler does not implement `Send` and `Sync` for the type
+// automatically. `GhostRevs` owns nothing.
 unsafe impl Send for GhostRevs {}
 
 unsafe impl Sync for GhostRevs {}
@@ -31,7 +31,7 @@ pub(crate) enum Came<'a> {
     Whole(&'a [Rev]),
     /// The revisions of an edit: the new revision and the new revision's parent.
     Edit(Rev, Option<Rev>),
-    /// The revisions of the original write, if a write is a copy.
+    /// For a write that is a copy: the revisions of the original write.
     Again(&'a GhostRevs),
 }
 

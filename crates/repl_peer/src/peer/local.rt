@@ -18,9 +18,9 @@ use std::alloc::AllocError;
 
 /// Stores a user's document in the database, together with the local write that records the put.
 ///
-/// The call builds the local write before it changes the database, so that an error changes nothing. After a failed
-/// allocation for the local write, the call returns `Memory` if the put would change the database, and otherwise the
-/// result of `Database::put_answer`.
+/// The call builds the local write before it changes the database, so that an error changes nothing. If the allocation
+/// for the local write fails and the put would change the database, the call returns `Memory`. If the put would not
+/// change the database, the call returns the result of `Database::put_answer` after a failed allocation.
 pub(crate) fn load(
     db: &mut Database,
     locals: &mut Vec<Written>,
@@ -73,9 +73,9 @@ fn prepare_id(locals: &mut Vec<Written>, id: &DocId) -> Result<DocId, AllocError
 
 /// Edits a document, and stores the local write that records the edit.
 ///
-/// The call prepares the local write before it changes the database, so that an error changes nothing. After a failed
-/// allocation for the local write, the call returns the error of `Database::check_edit`, or `Memory` if `check_edit`
-/// returns no error.
+/// The call prepares the local write before it changes the database, so that an error changes nothing. If the
+/// allocation for the local write fails, the call returns the error of `Database::check_edit`. If `check_edit` returns
+/// no error, the call returns `Memory`.
 pub(crate) fn edit(
     db: &mut Database,
     locals: &mut Vec<Written>,

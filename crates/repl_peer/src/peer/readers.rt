@@ -14,7 +14,7 @@ impl<F: WriteFilter> Peer<F> {
     ghost use Rattle.repl_peer.specs.peer.Peer.{session_in};
     ghost use Rattle.repl_peer.specs.session.Windows.{windows_of};
 
-    /// Returns the local writes in order. The index of a local write in the result is the write's number.
+    /// Returns the local writes in order. A local write's number is its index in the result.
     pub fn locals(&self) -> &[Written]
         ensures { result.now ≡ self.now.1.locals }
     {
@@ -59,8 +59,8 @@ impl<F: WriteFilter> Peer<F> {
         }
     }
 
-    /// Returns the arrivals (stored documents) of a session in order, if the peer has the session. The arrivals are
-    /// returned in two parts: a list of lists of arrivals, and a list of the arrivals that follow.
+    /// Returns the arrivals (stored documents) of a session in order, if the peer has the session. The result has two
+    /// parts: a list of lists with the earlier arrivals, and a list with the later arrivals.
     pub fn arrivals(&self, id: SessionId) -> Option<(&[Vec<Written>], &[Written])>
         ensures { option_map (λ lists. flat_map (λ list. list.items) lists.0.now ++ lists.1.now) result
             ≡ option_map (λ s. s.arrivals) (session_in self.now.1.sessions id) }
@@ -71,7 +71,8 @@ impl<F: WriteFilter> Peer<F> {
         }
     }
 
-    /// Returns the documents that a session refused, in order, each with its reason, if the peer has the session.
+    /// Returns a session's ledger: the refused documents in order, each with the reason. Returns `None` if the peer
+    /// does not have the session.
     pub fn ledger(&self, id: SessionId) -> Option<&[Refused]>
         ensures { option_copied result ≡ option_map (λ s. s.ledger) (session_in self.now.1.sessions id) }
     {

@@ -16,9 +16,8 @@ use std::marker::Model;
 /// A local write or an arrival (a stored document): the document's id and the revisions that were written, newest
 /// first.
 ///
-/// A write stores only its newest revision and its number of revisions, because a peer may have millions of writes. All
-/// revisions of the write except the newest are read from the document's tree, whose edges (links to parents) never
-/// change.
+/// A write stores only its newest revision and its number of revisions, because a peer may have millions of writes. The
+/// older revisions are read from the document's tree, because the links to parents in a tree never change.
 #[derive(Drop)]
 pub struct Written {
     id: DocId,
@@ -99,8 +98,9 @@ impl Written {
     }
 
     /// Returns the revision at index `place` in the list of the write's revisions, or `None` if the list is too short.
-    /// The newest revision has index 0. A write stores only its newest revision. The method `rev` reads any other
-    /// revision from the document's tree in the database `db`, which must have all revisions of the write.
+    /// The newest revision has index 0. A write stores only its newest revision. The method `rev` reads the older
+    /// revisions from the document's tree in `db`. In this tree, the parent of each revision except the last must be
+    /// the write's next revision (`StandsIn`).
     pub fn rev(&self, db: &Database, place: usize) -> Option<Rev>
         requires { StandsIn db.now self.now }
         ensures { result ≡ slice_get self.now.ancestry place }
@@ -110,7 +110,7 @@ impl Written {
         }
         let mut at = self.head.rev();
         for step in 0..place {
-            // The tree in `db` has a parent of the revision `at`, because `at` is not the write's last revision
+            // The revision `at` is not the write's last revision, so the tree in `db` has a parent of `at`
             // (`StandsIn`).
             let Some(parent) = parent_in(db, &self.id, at) else {
                 unreachable!()

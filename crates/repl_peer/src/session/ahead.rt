@@ -27,11 +27,11 @@ use repl_log::Counts;
 use rev_tree::{Origin, SessionId};
 use std::mem::replace;
 
-/// Settles the documents at the beginning of a parcel that have prepared arrivals, until a document cannot be stored.
-/// Returns the number of settled documents. The caller then settles the next document individually to find out why the
-/// document could not be stored in bulk.
+/// Settles the first documents of a parcel, if they have prepared arrivals. Stops at the first document that is refused
+/// or cannot be stored. Returns the number of settled documents. The caller then settles the next document individually
+/// to find out why the document could not be stored in bulk.
 ///
-/// The arrivals are added as one list, so that the peer does not add each arrival individually under its lock. If the
+/// The call adds the arrivals as one list, to avoid adding each arrival separately while the peer is locked. If the
 /// allocation for the list of arrivals fails, no document is settled.
 pub(crate) fn settle_prepared<F: WriteFilter>(
     filter: &F,
@@ -65,7 +65,7 @@ pub(crate) fn settle_prepared<F: WriteFilter>(
     if arrivals.is_empty() || session.earlier.reserve(2).is_err() {
         return 0;
     }
-    // Only a done window may be stored without the leaves of its rows, and the parcel's window is not done.
+    // The parcel's window is not done, so the rows of the window still have their leaves.
     let Some(rows) = session.windows[place].rows() else {
         unreachable!()
     };
@@ -80,8 +80,8 @@ pub(crate) fn settle_prepared<F: WriteFilter>(
     count
 }
 
-/// Stores at most the first `limit` documents of a parcel, until a document is refused or cannot be stored. Returns the
-/// number of stored documents.
+/// Stores the first documents of a parcel, at most `limit`. Stops at the first document that is refused or cannot be
+/// stored. Returns the number of stored documents.
 fn put_ahead<F: WriteFilter>(
     filter: &F,
     db: &mut Database,

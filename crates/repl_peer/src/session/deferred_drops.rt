@@ -1,12 +1,12 @@
-//! Stores the parts of a parcel that are dropped only after the peer has settled (processed) the parcel.
+//! Keeps parts of a parcel until the peer has settled the parcel, and drops the parts only then.
 use couch_base::{Asked, PreparedTree};
 use doc_json::{Doc, DocId};
 use rev_core::Rev;
 use std::alloc::Global;
 
-/// The parts of a settled parcel that are not dropped at once: the request, documents, gone revisions, and unused
-/// document trees that were built in advance. The parts in a `DeferredDrops` value are dropped together with the value,
-/// after the peer has settled the parcel.
+/// The parts of a settled parcel whose drop is deferred: the request, the documents, the gone revisions, and the unused
+/// prebuilt trees. The parts are dropped together with the `DeferredDrops` value, after the peer has settled the
+/// parcel.
 #[derive(Drop)]
 pub struct DeferredDrops {
     asked: Option<Asked>,

@@ -13,15 +13,15 @@ use std::sync::Arc;
 
 /// The revisions in the ancestries of refused documents, by document id.
 ///
-/// For most document ids, the ledgers have at most one document. The index and the ledger share the first ledger
-/// document with an id, so that the document's revisions are not copied. If several ledger documents have the same id,
-/// the index stores the revisions of the second and all later documents in one set. A lookup of a document id in the
-/// index scans the revisions of only one ledger document, the first with this id.
+/// Most document ids occur in the ledgers at most once. For each document id, the index shares the first ledger
+/// document with the ledger, and does not copy the document. If several ledger documents have the same id, the index
+/// stores the revisions of the second and all later documents in one set. A lookup scans the revisions of only one
+/// ledger document, the first document with the given id.
 #[derive(Drop)]
 pub(crate) struct LedgerIndex {
     /// For each document id, the first ledger document with this id.
     first: IndexMap<DocId, Arc<Doc>>,
-    /// For each document id with several ledger documents, the revisions of the second and all later documents.
+    /// For each document id with several ledger documents, the revisions of all these documents except the first.
     later: IndexMap<DocId, IndexSet<Rev>>,
 }
 
@@ -56,7 +56,8 @@ impl LedgerIndex {
         }
     }
 
-    /// Whether a revision is in the ancestry of the second or a later ledger document with the document id `id`.
+    /// Whether a ledger document with the id `id`, other than the first such document, has the revision in its
+    /// ancestry.
     fn is_in_later(&self, id: &DocId, rev: Rev) -> bool
         ensures { result ≡ is_in_later self.now id.now rev }
     {
@@ -85,8 +86,8 @@ impl LedgerIndex {
         Ok(())
     }
 
-    /// Adds the revisions of a document to the set for the document's id. If an allocation fails, the sets of the index
-    /// do not change.
+    /// Adds a document's revisions to the set in `later` for the document's id. If an allocation fails, the sets of the
+    /// index do not change.
     fn add_later(&mut self, doc: &Doc) -> Result<(), AllocError>
         ensures first { self.new.first ≡ self.old.first }
         ensures ok { OnOk result

@@ -11,15 +11,15 @@ use rev_core::Rev;
 use std::alloc::{AllocError, Global};
 use std::marker::Model;
 
-/// A parcel, optionally with the trees and the arrivals (a session's records of merged documents) of its documents. The
-/// trees and arrivals are built before the peer is locked.
+/// A parcel, optionally with prepared trees and prepared arrivals for its documents. An arrival is a session's record
+/// of a merged document. The trees and arrivals are built before the peer is locked.
 pub struct PreparedParcel {
     parcel: Parcel,
     arrivals: Vec<Written>,
 }
 
-// The type `PreparedParcel` has no `#[derive(Drop)]`, because each crate that owns a `PreparedParcel` would have to
-// prove the derived code (docs/DECISIONS.md, "Letting values go").
+// `PreparedParcel` implements `Drop` by hand. With `#[derive(Drop)]`, each crate that owns a `PreparedParcel` would
+// have to prove the derived code again (docs/DECISIONS.md, "Letting values go").
 impl Drop for PreparedParcel {
     fn drop(self) {
         let PreparedParcel {
@@ -70,7 +70,8 @@ impl PreparedParcel {
         &self.parcel
     }
 
-    /// Splits the prepared parcel into request, documents, gone revisions, prepared trees and prepared arrivals.
+    /// Splits the prepared parcel into its parts: the request, the documents, the gone revisions, the prepared trees
+    /// and the prepared arrivals.
     pub(crate) fn into_parts(
         self,
     ) -> (

@@ -6,16 +6,16 @@ use couch_base::Window;
 use std::alloc::Global;
 use std::marker::Model;
 
-/// A window, optionally with a prebuilt copy (`DoneWindow`) that leaves out the leaves of the window's rows. When the
-/// window is done, the session stores only the copy without leaves, unless the allocation of the copy failed. The call
-/// `prepare` builds the copy of the window before the peer is locked.
+/// A window, optionally with a prebuilt copy (`DoneWindow`) that does not have the leaves of the window's rows. After
+/// the window is done, the session stores only the copy, unless the copy could not be allocated. The call `prepare`
+/// builds the copy of the window before the peer is locked.
 pub struct ReadyWindow {
     window: Window,
     done: Option<DoneWindow>,
 }
 
-// `ReadyWindow` implements `Drop` itself, because each crate that owns a `ReadyWindow` would have to prove the code
-// that `#[derive(Drop)]` generates (docs/DECISIONS.md, "Letting values go").
+// `ReadyWindow` implements `Drop` by hand. With `#[derive(Drop)]`, each crate that owns a `ReadyWindow` would have to
+// prove the derived code again (docs/DECISIONS.md, "Letting values go").
 impl Drop for ReadyWindow {
     fn drop(self) {
         let ReadyWindow { window: _, done: _ } = self;
@@ -34,15 +34,15 @@ impl Model for ReadyWindow {
 }
 
 impl ReadyWindow {
-    /// Creates a `ReadyWindow` of a window. `new` does not build the copy of the window without leaves (`DoneWindow`).
+    /// Creates a `ReadyWindow` of a window, without a prebuilt copy (`DoneWindow`).
     pub fn new(window: Window) -> ReadyWindow
         ensures { result ≡ window }
     {
         ReadyWindow { window, done: None }
     }
 
-    /// Builds a copy of the window that leaves out the leaves of the window's rows (`DoneWindow`). If the allocation of
-    /// the `DoneWindow` fails, the session builds the `DoneWindow` later, when the window is done.
+    /// Builds a copy of the window without the leaves of its rows (`DoneWindow`). If the allocation of the `DoneWindow`
+    /// fails, the session builds the `DoneWindow` later, when the window is done.
     pub fn prepare(&mut self, alloc: Global)
         ensures { self.new ≡ self.old }
     {
@@ -58,9 +58,9 @@ impl ReadyWindow {
         &self.window
     }
 
-    /// Returns a copy of the window that leaves out the leaves of the window's rows (`DoneWindow`). If `prepare` has
-    /// built a `DoneWindow`, `take_done` removes it from `self`, and otherwise builds a `DoneWindow`. Returns `None` if
-    /// the allocation fails.
+    /// Returns a copy of the window without the leaves of its rows (`DoneWindow`). The call takes the `DoneWindow` that
+    /// `prepare` has built, or builds a `DoneWindow` if `prepare` has built none. Returns `None` if the allocation
+    /// fails.
     pub(crate) fn take_done(&mut self, alloc: Global) -> Option<DoneWindow>
         ensures same { self.new ≡ self.old }
         ensures done { IfSome result (λ done. done ≡ self.old) }

@@ -9,16 +9,16 @@ use std::sync::Arc;
 
 /// A document in a ledger, and the reason why the document was refused.
 ///
-/// The document is in an `Arc`, so that the index of the ledgers (`LedgerIndex`) can refer to the document without
-/// copying it.
+/// The ledger and the index of the ledgers (`LedgerIndex`) share the document through an `Arc` instead of copying the
+/// document.
 #[derive(Drop)]
 pub struct Refused {
     doc: Arc<Doc>,
     reason: StoredReason,
 }
 
-/// The form in which a ledger row stores a reason. A contradiction has three revisions, so a contradiction is stored in
-/// a heap block.
+/// The stored form of the reason in a ledger row. A contradiction is stored in a heap block, because it has three
+/// revisions.
 #[derive(Drop)]
 enum StoredReason {
     Filtered,
@@ -38,7 +38,7 @@ impl Model for Refused {
 impl Refused {
     ghost use Rattle.std.specs.Arc.{arc_value};
 
-    /// Creates a ledger row, which shares the document.
+    /// Creates a ledger row. The row shares the document instead of copying it.
     pub(crate) fn new(alloc: Global, doc: Arc<Doc>, reason: Reason) -> Result<Refused, AllocError>
         ensures { IfOk result (λ row. row ≡ record { doc = arc_value doc; reason = reason }) }
     {

@@ -8,7 +8,7 @@ use repl_log::RepId;
 use rev_tree::SessionId;
 use std::alloc::{AllocError, Global};
 
-/// The ids of each replication's sessions, in the order in which the sessions began.
+/// For each replication, the ids of its sessions, in the order in which the sessions began.
 #[derive(Drop)]
 pub(crate) struct RepIndex {
     ids: IndexMap<RepId, Vec<SessionId>>,

@@ -33,7 +33,7 @@ fn row_in(rows: &[Row], id: &DocId) -> Option<usize>
 /// the row at index `from + 1` does not match, `row_from` searches all rows from index `from`, and finally the rows
 /// before index `from`.
 ///
-/// For consecutive documents of a parcel, the rows are usually consecutive rows of the window, or the same row.
+/// Consecutive documents of a parcel usually have consecutive rows of the window, or the same row.
 pub(crate) fn row_from(rows: &[Row], id: &DocId, from: usize) -> Option<usize>
     requires { from ≤ length rows.now }
     ensures some { IfSome result (IsRowOf rows.now id.now) }
@@ -118,7 +118,8 @@ fn is_known(tree: Option<&Tree>, ledgered: &LedgerIndex, id: &DocId, rev: Rev) -
     has_in(tree, rev) || ledgered.has(id, rev)
 }
 
-/// Returns the first leaf of a row that is neither in its document's tree nor in the index of refused revisions.
+/// Returns the first unknown leaf of a row. A leaf is unknown if it is neither in its document's tree nor in the index
+/// of refused revisions.
 fn unknown_in(
     db: &Database,
     ledgered: &LedgerIndex,
@@ -136,8 +137,8 @@ fn unknown_in(
     None
 }
 
-/// Returns the first leaf of the rows that is neither in its document's tree nor in the index of refused revisions,
-/// with the leaf's row.
+/// Returns the first unknown leaf of the rows, with the leaf's row. A leaf is unknown if it is neither in its
+/// document's tree nor in the index of refused revisions.
 pub(crate) fn first_unknown<'a>(
     db: &Database,
     ledgered: &LedgerIndex,

@@ -32,8 +32,8 @@ use std::marker::Model;
 /// The incoming sessions of a peer, newest first, with lookup tables of refused revisions and of sessions by
 /// replication.
 ///
-/// Sessions are stored oldest first, in a table by session id, so that a call that names one session does not scan all
-/// sessions.
+/// Sessions are stored oldest first, in a table by session id. A call that names one session therefore does not scan
+/// all sessions.
 #[derive(Drop)]
 pub(crate) struct Sessions {
     entries: IndexMap<SessionId, Session>,
@@ -122,9 +122,10 @@ impl Sessions {
         Ok(log)
     }
 
-    /// Returns the common checkpoint of a replication: its newest session that is also in the source's log, and the
-    /// sequence of the common checkpoint. The sequence is the lesser of the session's recorded sequences at the target
-    /// and in the source's log. The call scans only the sessions of the replication, until it finds the common session.
+    /// Returns the common checkpoint of a replication. The checkpoint names the replication's newest session that is
+    /// also in the source's log. The checkpoint's sequence is the lesser of the two sequences that the target and the
+    /// source's log have recorded for this session. The call scans only sessions of this replication, newest first, and
+    /// stops at the common session.
     pub(crate) fn shared_with(&self, rep: &RepId, source: &Log) -> Option<(SessionId, u64)>
         ensures { result ≡ common source.now (log_of self.now rep.now) }
     {
@@ -228,7 +229,7 @@ impl Sessions {
         session.append(ready)
     }
 
-    /// Settles a parcel of a session, as `settle_parcel` does. The call checks for the error `NoSuchSession` first.
+    /// Settles a parcel of a session as `settle_parcel` does, but first checks for the error `NoSuchSession`.
     pub(crate) fn settle_session<F: WriteFilter>(
         &mut self,
         filter: &F,

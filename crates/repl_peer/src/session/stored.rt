@@ -23,8 +23,8 @@ pub(crate) struct Checked {
 }
 
 /// Checks that a parcel's window exists, has a row for each document and is not done, and that the counts do not
-/// overflow. Returns the index of the parcel's window, and the numbers of leaves and of requested revisions that
-/// settling adds to the session's counts. If a check fails, returns the error of the check that fails first.
+/// overflow. Returns the index of the parcel's window, and the two numbers that settling adds to the session's counts:
+/// leaves and requested revisions. If a check fails, returns the error of the check that fails first.
 pub(crate) fn check(session: &Session, parcel: &Parcel) -> Result<Checked, TargetFault>
     ensures ok { IfOk result
         (λ found. Passes session.now parcel.now found.place found.leaves found.asked) }
@@ -44,7 +44,7 @@ pub(crate) fn check(session: &Session, parcel: &Parcel) -> Result<Checked, Targe
     if session.front.is_done(lo, hi) {
         return Err(TargetFault::AlreadyDone);
     }
-    // Only a done window may be stored without the leaves of its rows, and the parcel's window is not done.
+    // The parcel's window is not done, so the rows of the window still have their leaves.
     let Some(rows) = window.rows() else {
         unreachable!()
     };
@@ -73,7 +73,7 @@ fn find_window(windows: &[StoredWindow], lo: u64, hi: u64) -> Option<usize>
     }
 }
 
-/// Returns the index of the session's first window that begins at or above a given sequence.
+/// Searches a session's windows, and returns the index of the first window that begins at `lo` or above.
 fn place_from(windows: &[StoredWindow], lo: u64) -> usize
     requires { (start : ℕ) × Consecutive start (windows_of windows.now) }
     ensures { IsPartitionPoint (λ w. w.lo < lo) (λ w. lo ≤ w.lo) (windows_of windows.now) result }
@@ -81,7 +81,7 @@ fn place_from(windows: &[StoredWindow], lo: u64) -> usize
     windows.partition_point(|window| window.lo() < lo)
 }
 
-/// Whether the counts of a session would stay at or below the maximum of a count if the given numbers were added.
+/// Whether adding the given numbers keeps each count of the session at or below the maximum of a count.
 fn has_room(session: &Session, read: u64, checked: u64, found: u64) -> bool
     ensures { result
         ≡ (nat_le (session.now.counts.read + read) most

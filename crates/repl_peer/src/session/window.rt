@@ -15,7 +15,8 @@ use std::marker::Model;
 
 // ---- done windows
 
-/// A row of a done window, without leaves. The leaves are ghost values that only contracts see.
+/// A row of a done window, without leaves. The row's leaves are ghost values: they exist only for contracts, and not at
+/// run time.
 #[derive(Drop)]
 pub(crate) struct DoneRow {
     seq: u64,
@@ -195,7 +196,7 @@ impl StoredWindow {
         }
     }
 
-    /// Returns the rows in order of rising sequence, if the window still has the leaves of its rows.
+    /// Returns the rows by rising sequence. Returns `None` if the leaves of the rows were dropped.
     pub fn rows(&self) -> Option<&[Row]>
         ensures whole { is_some result ≡ self.now.whole }
         ensures rows { IfSome result (λ r. r.now ≡ self.now.window.rows) }

@@ -20,7 +20,7 @@ pub struct Synced {
     pub back: Report,
 }
 
-/// The replication that failed (forward or reverse), and the reason why it failed.
+/// The direction of the failed replication (forward or reverse), and the reason why it failed.
 #[derive(Debug, Drop, Error)]
 pub enum SyncFault {
     /// The forward replication, from peer `a` into peer `b`, failed, and the reverse replication did not begin.
@@ -34,12 +34,12 @@ pub enum SyncFault {
 /// Replicates in both directions, on one thread. The call first replicates `a` into `b`. If the replication of `a` into
 /// `b` succeeds, the call then replicates `b` into `a`. Each direction is a `replicate_alone` with a separate plan.
 ///
-/// If the peers are consistent in both directions (docs/PROFILE.md, "Tied peers") and the call succeeds, each peer then
-/// has the other peer's leaves of each shared document. A document is shared if both plans select the document and
-/// neither peer has ever refused the document. If a shared document's two trees agreed before the call and had complete
-/// histories, both peers then have the same revisions, parents, contents of leaves and winner. Two trees agree if no
-/// revision has different parents or contents in the two trees. After a successful call between consistent peers, a
-/// shared document's two trees agree and have complete histories, if they did so before the call.
+/// If the peers are consistent in both directions (docs/PROFILE.md, "Tied peers"), a successful call gives each peer
+/// the other peer's leaves of each shared document. A document is shared if both plans select the document and neither
+/// peer has ever refused the document. Two trees agree if no revision has different parents or contents in the two
+/// trees. Assume that a shared document's trees agree and have complete histories before a successful call between
+/// consistent peers. After the call, the trees still agree and have complete histories. Both peers then have the same
+/// revisions, parents, contents of leaves and winner of the document.
 ///
 /// If the peers are consistent in both directions, they stay consistent for every result of the call. Peer `a` stays
 /// consistent with every other peer whose UUID differs from the UUID of `b`. Peer `b` stays consistent with every other

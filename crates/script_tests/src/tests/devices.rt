@@ -104,8 +104,8 @@ impl ScriptWrite for NarrowWriter {
     }
 }
 
-/// The test makes one run for each write of the output, in which this write fails, and a last run in which no write
-/// fails. In each run, the written text is a prefix of the expected output, with one byte for each successful write.
+/// For each write of the output, the test makes one run in which this write fails. In a last run, no write fails. Each
+/// successful write writes one byte, and the written text is a prefix of the expected output.
 #[test]
 fn stops_at_a_failed_write(rt: HostRuntime) -> Result<(), Fail> {
     let writes = ANSWERS.len() as u64;
@@ -163,7 +163,7 @@ impl ScriptWrite for GatheringWriter {
     }
 }
 
-/// Each row of the test table has the number of flushes that succeed, and the text that these flushes sent. The engine
+/// Each row of the test table has a number of successful flushes, and the text that these flushes send. The engine
 /// flushes before the first read, before the read that finds the end of the input, and after the last line, which has
 /// no line end.
 static FLUSHES: &[(u64, &str)] = &[

@@ -7,8 +7,8 @@ use script_engine::{NoRest, OverRead, OverWrite, Serve, run_lines};
 use std::alloc::AllocError;
 use std::test::Fail;
 
-/// A server that accepts lines of at most 40 bytes, and prints for each accepted line the length of the previously
-/// accepted line.
+/// A server that accepts lines of at most 40 bytes. For each accepted line, the server prints the length of the
+/// accepted line before it.
 #[derive(Drop)]
 pub(crate) struct Lengths {
     pub(crate) before: usize,

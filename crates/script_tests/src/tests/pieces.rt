@@ -54,7 +54,8 @@ fn push_marked(answer: &mut Vec<u8>, line: &[u8]) -> Result<(), AllocError>
 }
 
 /// Each row of the test table has the capacity that the server reserves for a line end, whether the run succeeds, and
-/// the run's output. If the server cannot reserve the capacity, the output ends before the line end of the first line.
+/// the run's output. If the server cannot reserve this capacity, the run stops before it writes the first line's line
+/// end.
 static ROOMS: &[(usize, bool, &str)] = &[
     (1, true, ">one\n>two three\n"),
     (usize::MAX, false, ">one"),

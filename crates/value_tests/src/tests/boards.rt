@@ -40,8 +40,8 @@ fn board_read(rt: HostRuntime) {
     assert!(rt; added == wanted && seen == [(2, 3), (2, 3)]);
 }
 
-/// Creates a board of one worker and a viewer. Returns the results of adding the maximum and then 1 to the worker's
-/// read counter, of adding through the viewer's seat, and of reading the board.
+/// Creates a board of one worker and a viewer. Adds the maximum and then 1 to the worker's read counter, adds 0 through
+/// the viewer's seat, and reads the board. Returns the results of these calls.
 fn all_read(alloc: Global) -> Option<([Added; 3], (u64, u64))> {
     let Ok((board, mut seats)) = Board::new(alloc, 1, 1) else {
         return None;

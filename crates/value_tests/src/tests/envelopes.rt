@@ -57,15 +57,15 @@ static WRAPPED: &[Row] = &[
             r#"{"_id":"a","_rev":"2-b","_revisions":{"start":2,"ids":["b","c"]},"whole":"\"x\":\"y\",\"_attachments\":{\"f\":{\"data\":\"QUJDREVGRw"#,
         ),
     ),
-    // For the beginning of a document without `_revisions`, `begin_put` returns `false`, because the rest of the
-    // document may have the member `_revisions`.
+    // The beginning of a document has no `_revisions` here, but the rest of the document may have this member. The call
+    // `begin_put` therefore returns `false`.
     (
         Call::BeginPut,
         r#"{"_id":"a","_rev":"2-b","_attachments":{"f":{"data":"QUJDREVGRw"#,
         None,
     ),
-    // `begin_put` returns `false` if the beginning of a document ends in a member other than `_attachments`, outside of
-    // a string, or shortly after a quotation mark.
+    // The documents' beginnings in the next three rows end, in this order, in a member other than `_attachments`,
+    // outside of a string, and shortly after a quotation mark. For each of these rows, `begin_put` returns `false`.
     (
         Call::BeginPut,
         r#"{"_id":"a","_revisions":{"start":1,"ids":["b"]},"x":{"f":{"data":"QUJDREVGRw"#,
@@ -100,8 +100,8 @@ static UNWRAPPED: &[Row] = &[
         r#"{"_id":"a","_rev":"2-b","whole":"\"x\":\"y\",\"_attachments\":{\"f\":{\"data\":\"QUJDREVGRw"#,
         Some(r#"{"_id":"a","_rev":"2-b","x":"y","_attachments":{"f":{"data":"QUJDREVGRw"#),
     ),
-    // `begin_take` returns `false` if the beginning of an envelope ends outside of a wrapped string, in a member other
-    // than `whole`, or shortly after an escape.
+    // The envelopes' beginnings in the next three rows end, in this order, outside of a wrapped string, in a member
+    // other than `whole`, and shortly after an escape. For each of these rows, `begin_take` returns `false`.
     (
         Call::BeginTake,
         r#"{"_id":"a","_rev":"2-b","whole":"\"x\":1234567890"#,

@@ -23,7 +23,7 @@ enum Call {
     End,
     /// Read the low water.
     LowWater,
-    /// Count the ranges of adjacent done windows above the low water, each range as long as possible.
+    /// Count the ranges of done windows above the low water. A range has as many adjacent done windows as possible.
     RangeCount,
 }
 
@@ -70,7 +70,7 @@ static OUT_OF_ORDER: &[(Call, &str)] = &[
 ];
 
 /// A table of calls on a front (a list of adjacent windows). The first calls append windows with the ends 2, 4, 6, 8
-/// and 10. Finishing the windows makes ranges of done windows appear, merge, and fall below the low water.
+/// and 10. When the windows are finished, ranges of done windows appear, merge, and fall below the low water.
 static RANGES_MERGED: &[(Call, &str)] = &[
     (Call::Append(2), "Ok(())"),
     (Call::Append(4), "Ok(())"),

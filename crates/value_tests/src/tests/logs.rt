@@ -13,18 +13,18 @@ enum Call<'a> {
     Make,
     /// Copy a log, and append the copy to the list of logs.
     Copy(usize),
-    /// Store in a log the entry of a session that read nothing. The fields of `Put` are the log's index in the test's
-    /// list, the session id and the recorded sequence.
+    /// Store in a log the entry of a session that read no document. The fields of `Put` are the log's index in the
+    /// test's list, the session id and the recorded sequence.
     Put(usize, u128, u64),
     /// Store in a log the entry of session 1, which read one document. The fields of `PutOne` are the log's index in
     /// the test's list, and a timestamp.
     PutOne(usize, u64),
-    /// Store the entry of a session that read nothing, in the log of the replication from database 1 into another
-    /// database. The fields of `PutInto` are the replication's target database, the session id and the recorded
+    /// Store an entry in the log of the replication from database 1 into another database. The entry's session read no
+    /// document. The fields of `PutInto` are the replication's target database, the session id and the recorded
     /// sequence.
     PutInto(u128, u128, u64),
-    /// Copy the logs of all replications. The call `CopyInto(t)` then appends the copied log of the replication from
-    /// database 1 into database t to the test's list of logs.
+    /// Copy the logs of all replications. Append the copied log of the replication from database 1 into the given
+    /// database to the test's list of logs.
     CopyInto(u128),
     /// Read whether the replication from database 1 into another database has a log.
     HasInto(u128),
@@ -189,7 +189,7 @@ fn from_one(target: u128) -> RepId {
     }
 }
 
-/// Creates the entry of a session that recorded up to a sequence and read nothing.
+/// Creates the entry of a session that read no document and recorded the sequence `recorded`.
 fn entry(session: u128, recorded: u64) -> Option<Entry> {
     let Ok(at) = Moment::new(0) else {
         return None;
@@ -250,8 +250,8 @@ fn written(alloc: Global, id: &RepId, log: &Log) -> Option<String> {
     }
 }
 
-/// Creates a timestamp from a number of seconds, and formats the seconds that the timestamp returns, or the error of
-/// `Moment::new`.
+/// Creates a timestamp from a number of seconds. Formats the seconds of the timestamp, or the error if `Moment::new`
+/// fails.
 fn moment_text(alloc: Global, seconds: u64) -> Option<String> {
     match Moment::new(seconds) {
         Ok(moment) => shown(alloc, &moment.seconds()),
@@ -281,7 +281,7 @@ fn common_session(rt: HostRuntime) {
     Bench::new(rt.alloc()).run(&rt, COMMON_ROWS);
 }
 
-/// Storing a new entry of a session replaces the session's old entry, and keeps the entry's position in the log.
+/// A new entry of a session replaces the session's old entry at the same position in the log.
 static REPLACED_ROWS: Rows = &[
     (Call::Make, "made"),
     (Call::Put(0, 10, 9), "Ok(())"),

@@ -23,8 +23,8 @@ enum Call<'a> {
     Contains(Parts<'a>, &'a str),
     /// Copy an ancestry, and read the parent of a revision in the copied ancestry.
     Parent(Parts<'a>, &'a str),
-    /// Store a revision in compact form (`KeptRev`), and copy the `KeptRev`. The result is `short ` or `long `,
-    /// depending on the revision's signature, followed by the copied revision as a string.
+    /// Store a revision in compact form (`KeptRev`), and copy the `KeptRev`. The result is the copied revision as a
+    /// string. The string begins with `short ` or `long `, which describes the revision's signature.
     Keep(&'a str),
     /// Convert a revision to a `SmallRev`, and copy the `SmallRev`. Read whether the `SmallRev` stores the revision in
     /// a heap block, and format the revision in the copied `SmallRev` as a string.
@@ -189,8 +189,8 @@ fn parent_text(alloc: Global, parts: Parts, text: &str) -> Option<String> {
     }
 }
 
-/// Copies the compact form (`KeptRev`) of a revision. Returns `short ` or `long `, depending on the revision's
-/// signature, followed by the copied revision.
+/// Copies the compact form (`KeptRev`) of a revision. Returns the copied revision as a string. The string begins with
+/// `short ` or `long `, which describes the revision's signature.
 fn kept_text(alloc: Global, text: &str) -> Option<String> {
     let Some(rev) = rev(text) else {
         return None;

@@ -4,8 +4,8 @@ use rev_core::{Ancestry, Sig};
 use std::alloc::Global;
 use std::process::Abort;
 
-/// Asserts that the test could perform a call, and that the call returned the expected string. The argument `None`
-/// means that the test could not perform the call.
+/// Asserts that the test could perform a call, and that the call returned the expected string. If `answer` is `None`,
+/// the test could not perform the call.
 pub(crate) fn expect_answer(rt: &impl Abort, number: usize, answer: Option<String>, wanted: &str) {
     let is_wanted = match &answer {
         Some(text) => text.as_str() == wanted,

@@ -157,7 +157,8 @@ fn append_null(alloc: Global, text: &mut String, number: usize) -> Option<()> {
     }
 }
 
-/// Appends a JSON member with the value `number`, whose name is `number` with leading zeros, and then appends `end`.
+/// Appends a JSON member, and then the text `end`. The member's value is `number`, and its name is `number` with
+/// leading zeros.
 fn append_number(alloc: Global, text: &mut String, number: usize, end: &str) -> Option<()> {
     match format!(in alloc; "\"{number:05}\":{number}{end}") {
         Ok(member) => text.push_str(member.as_str()).ok(),
