@@ -15,7 +15,8 @@ use Rattle.couch_base.specs.declared.fault.BaseFault.{BaseFault}
 use Rattle.couch_base.specs.declared.fault.BaseFault.TheVariants as faults
 
 -- If an edit names a leaf as its parent, that leaf is the parent. If an edit names no parent, and all leaves of the
--- document are deleted, the parent is the deleted winner. An edit of a new document has no parent.
+-- document are deleted, the parent is the deleted winner. If an edit of a new document names no parent, the edit has no
+-- parent. Any other edit fails.
 abbrev pub parent_answer : Option TreeValue → Option RevId → Result (Option RevId) BaseFault
 parent_answer None None = Ok None
 parent_answer None (Some parent) = Err faults.NoSuchDocument

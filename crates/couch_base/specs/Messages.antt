@@ -60,8 +60,7 @@ want_first id [] others = others
 want_first id (r ∷ revs) others = record { id = id; revs = r ∷ revs } ∷ others
 
 -- The requests for missing leaves: one request for each feed row that has missing leaves, in the order of the rows. A
--- leaf of a feed row is missing if the row's document is not in the list `ds`, or if the document's tree there lacks
--- the leaf.
+-- leaf of a feed row is missing if the list `ds` lacks the row's document, or if the document's tree lacks the leaf.
 abbrev pub wanted : List DocumentValue → List RowValue → List WantedValue
 wanted ds [] = []
 wanted ds (r ∷ rows) = want_first r.id (missing (tree_of ds r.id) r.leaves) (wanted ds rows)

@@ -154,7 +154,7 @@ RunsCompare documents ended input text result =
     (λ lines rest. wrong_or (wrong_compared lines rest) outcomes.Done) ended input text result
 
 -- The effect of running the task `parts`: its output is the parts into which the input's lines are split. The pair
--- `limit` has the maximum number of bytes in a part, and the maximum number of lines in a part.
+-- `limit` has the maximum numbers of bytes and of lines in a part, which only a part of one line may exceed.
 abbrev pub RunsParts : ℕ × ℕ → Type 0 → List ℕ → List ℕ → Result Outcome ScriptFault → Type 0
 RunsParts limit ended input text result =
     RunsLines (complete_text limit) (parts_text limit) (λ lines rest. wrong_or (unended_line lines rest) outcomes.Done) ended input text result
@@ -200,9 +200,9 @@ RunsWords words ended input text (Ran result) =
     (o : Options) × (task : Task) × Says words o × IsTaskOf o task × RunsTask task o ended input text result
 
 -- A run of the program on its standard streams. The argument `words` is the command line, and `all` is the statement
--- that the reads reached the end of the input. The argument `input` has the bytes that the reads returned, `text` has
--- the bytes that the output has accepted, and `ended` says how the run ended. If the last output of a run cannot be
--- flushed, a part of this output is missing, and the run ends as `unflushed` says.
+-- that the reads reached the end of the input. The argument `input` has the bytes that the reads returned, and `text`
+-- has the bytes that the output has accepted. The argument `ended` says how the run ended. If the last output of a run
+-- cannot be flushed, a part of this output is missing, and the run ends as `unflushed` says.
 abbrev pub RunsStandard : List (List ℕ) → Type 0 → List ℕ → List ℕ → Ended → Type 0
 RunsStandard words all input text ended =
     (first : Ended) × (rest : List ℕ) × RunsWords words all input (text ++ rest) first

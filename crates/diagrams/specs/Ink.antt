@@ -234,8 +234,8 @@ pub record Draws (old new : List ℕ) (signs : List Sign) : Type 0 where
 abbrev pub leaf_sign : Form → Leaf → Sign
 leaf_sign form l = leaf form l.rev l.wins l.live
 
--- A list of one command, which would delete leaf l of document `id` in the database `db`. The list is empty if l is
--- deleted or is the winner.
+-- The command that would delete leaf l of document `id` in the database `db`, as a list of one command. The list is
+-- empty if l is deleted or is the winner.
 abbrev pub edit_of : List ℕ → List ℕ → Leaf → List Sign
 edit_of db id l = if not l.wins && l.live then edit db id l.rev ∷ [] else []
 

@@ -73,8 +73,9 @@ if_any t = cond (is_blank t) None (Some t)
 abbrev pub string_of : List ℕ → Option (List ℕ)
 string_of t = cond (is_utf8 t) (option_and_then as_str (document t)) None
 
--- The text that the member m of an envelope adds to the document, or `None` if m adds no text. A member named `whole`
--- adds the content of its string, unless the content is blank. Any other member adds itself.
+-- The text that the member m of an envelope adds to the document. A member named `whole` adds the content of its
+-- string, and any other member adds itself. If the value of a member `whole` is not a string, or the string is blank,
+-- the result is `None`.
 abbrev pub unfolded_member : List ℕ → Option (List ℕ)
 unfolded_member m = cond (has_name m whole_name) (option_and_then if_any (string_of (value_of m whole_name))) (Some m)
 

@@ -12,7 +12,7 @@ held_of e = e.held.items
 abbrev pub printed_of : Envelope → Bool
 printed_of e = e.printed
 
--- If the flag `printed` of the `Envelope` e is true, the text of e with a closing brace is an envelope as the crate
--- `json` prints it.
+-- If the flag `printed` of the `Envelope` e is true, e's text with a closing brace is an envelope as the crate `json`
+-- prints it.
 abbrev pub HasPrintedFront : Envelope → Type 0
 HasPrintedFront e = printed_of e ≡ true → IsPrinted (made_of e ++ 125 ∷ [])

@@ -62,8 +62,8 @@ list_in seq list = option_and_then (named_in seq) (document list)
 abbrev pub token : List ℕ → Option (List ℕ)
 token text = if is_token text then Some text else None
 
--- The leaves of a journal line with the given sequence and JSON list. The result is `None` in three cases: the line has
--- no sequence, the line has no list, or the list is not an id followed by revisions.
+-- The leaves of a journal line with the given sequence and JSON list. The result is `None` if the line has no sequence
+-- or no list, or if the list is not an id followed by revisions.
 abbrev pub leaves_at : Option (List ℕ) → Option (List ℕ) → Option LeavesView
 leaves_at None list = None
 leaves_at (Some seq) None = None

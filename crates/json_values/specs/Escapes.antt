@@ -11,9 +11,9 @@ mode after_backslash = in_escape
 mode after_u = in_string
 mode (after_high h) = in_string
 
--- The escape at index i of the text d gives the pair r: a character, and the index after the escape. With its
--- backslash, an escape is at least as long as the character that it denotes. The lexer skips the escape at index i of
--- the text d, and continues inside the string.
+-- The rest of an escape, from index i of the text d on, gives the pair r: a character, and the index after the escape.
+-- If r is `None`, the string's content from index i on is invalid. The rest of the escape has at least as many bytes as
+-- the character. The lexer skips the rest of the escape, and continues inside the string.
 abbrev pub Escape : List ℕ → Within → ℕ → Option (ℕ × ℕ) → Type 0
 Escape d within i r =
     MatchOption r (content within (drop i d) ≡ None) (λ p.

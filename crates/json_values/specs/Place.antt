@@ -20,8 +20,8 @@ NotBeforeComma AfterValue text = head text ≢ 44
 NotBeforeComma AfterComma text = ⊤
 NotBeforeComma Failed text = ⊤
 
--- At each grammar position at which a value or a name may begin, the token t is the first token of the text `old`.
--- After the token t, the tokens of `old` are the tokens of the text `new`, read from the grammar position `place`.
+-- If the text `old` is read from a grammar position at which a value or a name may begin, its first token is t. After
+-- the token t, the tokens of `old` are the tokens of the text `new`, read from the grammar position `place`.
 abbrev pub Begins : List ℕ → Token → Place → List ℕ → Type 0
 Begins old t place new = (p : spec.Place) → may_begin p ≡ true → punctuate p (lex between old) ≡ t ∷ tokens_at place new
 

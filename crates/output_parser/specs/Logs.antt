@@ -63,7 +63,7 @@ pub record Values (values : List (List ℕ)) (e : Logged) : Type 0 where
   pub session_utf8 : IsUtf8 e.session
   pub begun_utf8 : IsUtf8 e.begun
 
--- The text is the session e of a log, up to the session's closing brace, followed by the text `after`.
+-- The text is the session e of a log, including the session's closing brace, followed by the text `after`.
 pub record IsEntry (e : Logged) (after text : List ℕ) : Type 0 where
   pub values : List (List ℕ)
   pub listed : InTurn IsMember all_members values (125 ∷ after) text

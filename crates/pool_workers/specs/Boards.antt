@@ -77,8 +77,8 @@ IsSeated None None = Unit {0}
 IsSeated (Some b) (Some s) = WorksAt b s
 IsSeated board seat = ⊥
 
--- The writer's optional seat (access token to the progress board) is s before the writer reads n more documents, and t
--- afterwards. If the run has no progress board, the optional seats s and t are equal.
+-- A writer's optional seat (access token to the progress board) changes from s to t, and the seat's read counter grows
+-- by n documents. If the run has no progress board, the optional seats s and t are equal.
 abbrev pub HasRead : Option Board → ℕ → Option BoardSeat → Option BoardSeat → Type 0
 HasRead None n s t = t ≡ s
 HasRead (Some b) n (Some s) (Some t) =

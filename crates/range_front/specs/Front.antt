@@ -75,7 +75,7 @@ end_from start (w ∷ ws) = end_from w.hi ws
 abbrev pub end_of : FrontValue → ℕ
 end_of f = end_from f.start f.windows
 
--- The end of the done windows at the beginning of front f, or the start of f if f does not begin with a done window.
+-- The end of the leading done windows of front f, or the start of f if f does not begin with a done window.
 abbrev pub low_water : FrontValue → ℕ
 low_water f = end_from f.start (take_while (λ w. w.done) f.windows)
 
@@ -85,7 +85,7 @@ above_low_water [] = []
 above_low_water (w ∷ ws) = if w.done then above_low_water ws else w ∷ ws
 
 -- The number of maximal groups of adjacent done windows that begin within a list. If `before` is true, a done window
--- directly precedes the list, and done windows at the start of the list do not begin a new group.
+-- directly precedes the list, so done windows at the list's start begin no new group.
 abbrev pub run_count : Bool → List FrontWindow → ℕ
 run_count before [] = 0
 run_count before (w ∷ ws) = (if w.done then (if before then 0 else 1) else 0) + run_count w.done ws

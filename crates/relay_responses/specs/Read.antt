@@ -61,7 +61,7 @@ abbrev pub some_items : {A : Type 0} → (Json → Option A) → Items → List 
 some_items reads no_items = []
 some_items reads (item j js) = option_map_or (λ x. x ∷ some_items reads js) (reads j) (some_items reads js)
 
--- If the optional list is present, the list xs followed by this list, otherwise `None`.
+-- The list xs followed by a second list, or `None` if the second list is `None`.
 abbrev pub prepend : {A : Type 0} → List A → Option (List A) → Option (List A)
 prepend xs None = None
 prepend xs (Some ys) = Some (xs ++ ys)

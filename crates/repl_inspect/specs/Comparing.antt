@@ -12,10 +12,10 @@ use Rattle.rev_tree.specs.Content.{ContentValue}
 use Rattle.rev_tree.specs.Tree.{TreeValue, leaves, ancestors, missing, first_contradiction}
 use Rattle.rev_tree.specs.declared.fault.Contradiction.{Contradiction}
 
--- The result of comparing a document at the source with the document at the target. The fields are the number of leaves
--- at the source, the leaves missing at the target, an optional contradiction, and the leaves with different known
--- contents. The contents of a leaf are compared only if both trees have a content of the leaf. The contradiction names
--- a revision with different parents at source and target: the first such revision in the ancestries of the missing
+-- The result of comparing a document at the source with the document at the target. The fields are the number of the
+-- source's leaves, the leaves missing at the target, an optional contradiction, and the leaves whose known contents
+-- differ. The contents of a leaf are compared only if both trees have a content of the leaf. The contradiction names a
+-- revision with different parents at source and target: the first such revision in the ancestries of the missing
 -- leaves.
 pub record ComparisonValue : Type 0 where
   pub leaves : ℕ

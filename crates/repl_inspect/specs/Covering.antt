@@ -14,8 +14,8 @@ use Rattle.repl_peer.specs.peer.Covered.{in_ledger}
 abbrev pub HasNoLedger : PeerValue → Type 0
 HasNoLedger p = (s : SessionValue) → Among s p.sessions → s.ledger ≡ []
 
--- If the target's trees lack a leaf of the source's selected feed, a session of the target has refused a document with
--- this leaf in its ancestry.
+-- If the target's trees lack a leaf of the source's selected feed, a target session has refused a document with this
+-- leaf in its ancestry.
 abbrev pub MissingIsRefused : PeerValue → PeerValue → Choice → Type 0
 MissingIsRefused source target chosen =
     (row : RowValue) → Among row (chosen_feed chosen source.db 0 source.db.update_seq) → (leaf : RevId)

@@ -77,7 +77,7 @@ pub record IsCommon (source target : List EntryValue) (s : SessionId) (n : ℕ) 
   pub older : List EntryValue
   pub at_target : EntryValue
   pub at_source : EntryValue
-  -- The source's log has no session that is newer than the checkpoint's session in the target's log.
+  -- The sessions of the target's log that are newer than the checkpoint's session are not in the source's log.
   pub target_is : target ≡ newer ++ at_target ∷ older
   pub none_newer : list_any (λ t. holds source t.session) newer ≡ false
   -- The logs of source and target both have the session of the checkpoint.

@@ -196,10 +196,10 @@ turned source target i x is =
     at_drop_more (λ (rest : List EntryValue). common source rest) target i x (slice_get_within target i x is)
     ∙ ap (λ (y : EntryValue). common source (y ∷ drop (i + 1) target)) (get_or_from_slice_get target i x x is)
 
--- The target's entry at index i determines the common checkpoint if two conditions hold: no earlier entry affects the
--- checkpoint, and the source's log has the entry's session. The common checkpoint has the session of the entry that
--- determines the checkpoint. The checkpoint's sequence is the lesser of the session's recorded sequences in the logs of
--- source and target.
+-- The target's entry at index i determines the common checkpoint if no earlier entry affects the checkpoint and the
+-- source's log has the entry's session. The common checkpoint has the session of the entry that determines the
+-- checkpoint. The checkpoint's sequence is the lesser of the session's recorded sequences in the logs of source and
+-- target.
 pub common-at : (source target : List EntryValue) (i recorded : ℕ) (x : EntryValue) → common source target ≡ common source (drop i target) → slice_get target i ≡ Some x → recorded_of source x.session ≡ Some recorded
     → common source target ≡ Some (x.session, min recorded x.recorded)
 common-at source target i recorded x so_far is held = so_far ∙ turned source target i x is ∙ common-shared source (drop (i + 1) target) x recorded held

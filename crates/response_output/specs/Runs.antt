@@ -103,9 +103,9 @@ Breaks (Device fault) s w part bytes held held' = Begins fault s w part bytes he
 
 -- The program's parser has the state r. A parser that stores every byte has the state s after the same bytes. The text
 -- `part`, the beginning of the next item, was written already. The program's parser may omit bytes of a long document
--- from its stored text. If the beginning of a long document was written, the parser has stored `at` bytes of it, and
--- `front` is the output for these stored bytes. If the program's parser has rejected a byte, `front` and `at` may have
--- any values.
+-- from its stored text. If the beginning of a long document was written, `front` is the output for the `at` bytes of
+-- this beginning that the parser stored. If the program's parser has rejected a byte, `front` and `at` may have any
+-- values.
 pub data Tracks (s r : State) (front : List ℕ) (at : ℕ) (w : Words) (part : List ℕ) : Type 0 where
   tracks_whole : Like s r → front ≡ [] → part ≡ [] → Tracks s r front at w part
   tracks_long : (cut : LongCut) (name : Name) → Mirrors cut name s r → front ≡ cut.front → at ≡ length cut.stored → (length front == 0) ≡ false

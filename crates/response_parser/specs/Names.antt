@@ -134,8 +134,8 @@ is_id Reason = false
 is_id Other = false
 is_id Foreign = false
 
--- Whether a member of the given kind has one of two lists as its value: a document's list of revisions, or the list
--- `docs` of an outermost object.
+-- Whether the value of a member of the given kind is a document's list of revisions, or the list `docs` of an outermost
+-- object.
 abbrev pub is_inner : Name → Bool
 is_inner Plain = false
 is_inner Item = false

@@ -18,8 +18,9 @@ pub record State : Type 0 where
   pub depth : ℕ
   -- Whether the innermost open object has a known member, such as `ok` or `results`. An object without a known member
   -- causes the error `NoDocument` if the parser is strict (`is_strict`). A parser that is not strict skips an object
-  -- without a known member. Whether the innermost open object has a member with a document id.
+  -- without a known member.
   pub known : Bool
+  -- Whether the innermost open object has a member with a document id.
   pub named : Bool
   -- Whether the parser's last name is the first name of its object.
   pub first : Bool
@@ -39,8 +40,8 @@ pub record State : Type 0 where
   pub error : List ℕ
   -- The kind of item that the parser's last byte completed.
   pub found : Found
-  -- The number of skipped entries: objects without documents, other values (such as errors) instead of documents, and
-  -- lines of a script's output that begin with `refused`.
+  -- The number of skipped entries: objects without documents, other values (such as errors) instead of documents, and a
+  -- script's output lines that begin with `refused`.
   pub passed : ℕ
   -- The number of bytes that the parser has read.
   pub taken : ℕ
