@@ -73,8 +73,8 @@ missing_in_input lines rest =
 abbrev pub diffed_flags : List (List ℕ) → List Bool
 diffed_flags lines = part_flags is_wrong (λ line. false) lines
 
--- The number of the first wrong line of the list. If the response is absent, the bytes `rest` after the last line end
--- are a line of the list.
+-- The number of the first wrong line of the list. If the response is absent, and the input has bytes `rest` after its
+-- last line end, these bytes are a wrong line of the list.
 abbrev pub wrong_diffed : List (List ℕ) → List ℕ → Option ℕ
 wrong_diffed lines rest = wrong_line (λ wrong. wrong) (diffed_flags lines) (if has_second_part lines then [] else rest)
 
