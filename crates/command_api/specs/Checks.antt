@@ -8,7 +8,7 @@ use Rattle.script_databases.specs.declared.refusal.Refusal.TheVariants as why
 abbrev pub needed : {A : Type 0} → Option A → Result A Refusal
 needed x = or_refused why.BadCommand x
 
--- An `Ok` result with function f applied to its value, or an unchanged `Err` result.
+-- Like Rust's `Result::map`: the function f is applied to the value of an `Ok` result, and an error is unchanged.
 abbrev pub seen_as : {A B : Type 0} → (A → B) → Result A Refusal → Result B Refusal
 seen_as f (Ok x) = Ok (f x)
 seen_as f (Err why) = Err why

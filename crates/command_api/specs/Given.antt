@@ -29,7 +29,7 @@ ids_given (text ∷ texts) = do
   ids ← ids_given texts
   Ok (id ∷ ids)
 
--- The selection of the documents with the ids of a list, or the error of creating this selection.
+-- The selection of the documents whose ids are in a list, or the error of creating this selection.
 abbrev pub chosen_given : List (List ℕ) → Result Choice Refusal
 chosen_given ids = some_of (told_as doc_refusal (chosen_answer ids))
 

@@ -33,8 +33,8 @@ AnswersIn answers old (Err refusal) told new = Refuses refusal old told new
 abbrev pub Reads : Result (List ℕ) Refusal → State → Told → State → Type 0
 Reads text old told new = (told ≡ told_of text) × (new ≡ old)
 
--- A line of a script either prints the given output and leads to the given state, or fails with the given error and
--- leaves the script's state unchanged.
+-- If the given result is `Ok`, a line of a script prints the result's output and leads to the result's state. If the
+-- given result is an error, the line fails with this error, and leaves the script's state unchanged.
 abbrev pub Does : Result (List ℕ × State) Refusal → State → Told → State → Type 0
 Does (Ok done) old told new = (told ≡ Ok done.0) × (new ≡ done.1)
 Does (Err refusal) old told new = Refuses refusal old told new
@@ -47,9 +47,10 @@ abbrev pub told_hushed : Bool → Told → Told
 told_hushed quiet (Ok text) = Ok (hushed quiet text)
 told_hushed quiet (Err name) = Err name
 
--- The result `loud`, which the relation `answers` allows, is the line's result before the output of a quiet program is
--- suppressed. If the program is quiet and the line succeeds, the line's result `told` is a success with an empty
--- output. If the program is not quiet or the line fails, the line's result `told` is the unsuppressed result `loud`.
+-- A quiet program suppresses the output of a line. If no output were suppressed, the line's result would be `loud`,
+-- which the relation `answers` allows. If the program is quiet and the line succeeds, the line's result `told` is a
+-- success with an empty output. If the program is not quiet, or the line fails, the line's result `told` is equal to
+-- `loud`.
 abbrev pub UnlessQuiet : {L : Type 0} → Answering State L → Answering State L
 UnlessQuiet answers old ask told new =
     (loud : Told) × answers old ask loud new × (told ≡ told_hushed old.program.quiet loud)

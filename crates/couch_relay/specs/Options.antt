@@ -50,8 +50,8 @@ command_line = with_options (with_numbers (with_arguments (program_app (codes "c
 
 -- ---- option values
 
--- If an option has a text, this text is a decimal numeral, and n is its value. If an option has no text, the option's
--- value n is the number `default`.
+-- If an option has a text, the text is a decimal numeral with the value n. If an option has no text, n is the number
+-- `default`.
 abbrev pub IsValue : Option Text → ℕ → ℕ → Type 0
 IsValue None default n = n ≡ default
 IsValue (Some text) default n = IsNumber 64 text n
@@ -76,9 +76,9 @@ pub record AreGiven (text number : Text → Option Text) (o : Options) : Type 0 
 abbrev pub Says : List Text → Options → Type 0
 Says words o = AreGiven (λ id. first_of id (matches_of command_line words)) (λ id. one_of id (matches_of command_line words)) o
 
--- The reason why no options can be made from the command line's arguments. The variant `Words` has an error of the kind
--- that `clap` reports for the command line's arguments. The variant `NoNumber` says that no value of `Options` matches
--- the command line's arguments. The variant `Memory` says that an allocation failed.
+-- The reason why no options can be made from the command line's arguments. If the reason is `Words`, the error in
+-- `Words` says that `clap` rejects the arguments, or that an allocation failed (`HasKind`). The variant `NoNumber` says
+-- that no value of `Options` matches the command line's arguments. The variant `Memory` says that an allocation failed.
 abbrev pub Refuses : List Text → NoOptions → Type 0
 Refuses words (Words error) = HasKind (fault_of command_line words) error
 Refuses words NoNumber = (o : Options) → Says words o → ⊥

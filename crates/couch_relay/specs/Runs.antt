@@ -42,9 +42,9 @@ Receives q old new ended before after dated =
     (bytes : List ℕ) × Appends old new bytes
     × MatchOption dated (NoFrame ended (before ++ bytes)) (λ d. BeginsWithResponse q (before ++ bytes) after d)
 
--- In a run, the exchange e (a request and its response) follows the exchanges that the statement `earlier` describes.
--- The run wrote the request of exchange e after all earlier requests, and read the response of e after all earlier
--- responses.
+-- The exchange e (a request and its response) is the next exchange of a run. The relation `earlier` is true for the
+-- bytes that the run read and wrote in all earlier exchanges. The run wrote the request of exchange e after all earlier
+-- requests, and read the response of e after all earlier responses.
 pub record IsNext (o : RequestOptions) (e : Exchange) (earlier : List ℕ → List ℕ → Type 0) (read written : List ℕ) : Type 0 where
   pub read_before : List ℕ
   pub written_before : List ℕ
@@ -62,7 +62,7 @@ Exchanged o [] read written = (read ≡ []) × (written ≡ [])
 Exchanged o (e ∷ h) read written = IsNext o e (Exchanged o h) read written
 
 -- In its exchanges (requests and responses), a run has read the bytes `read` and written the bytes `written`. The rule
--- `MayAsk` allows each request that the run has sent, and allows `next` as the run's next request.
+-- `MayAsk` allows `next` as the run's next request, and allowed each earlier request of the run when it was sent.
 pub record IsRun (o : RequestOptions) (read written : List ℕ) (next : RequestView) : Type 0 where
   pub history : List Exchange
   pub exchanged : Exchanged o history read written
@@ -209,7 +209,7 @@ RunsWords words ended input text (end.NotRun why) = (input ≡ []) × (text ≡ 
 RunsWords words ended input text (end.Ran ran) =
     (options : Options) × Says words options × RunsOptions options ended input text ran
 
--- The statement p is true if the program made a run, and the run ended with an exit status.
+-- If the program made a run, and the run ended with an exit status, the statement p is true.
 abbrev pub IfRan : Ended → Type 0 → Type 0
 IfRan (end.NotRun why) p = Unit {0}
 IfRan (end.Ran (Ok status)) p = p

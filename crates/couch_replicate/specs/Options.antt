@@ -42,8 +42,8 @@ AreSettings text number s =
     × IsNumber (number (codes "workers")) 4 s.workers × IsNumber (number (codes "batch")) 500 s.batch
     × IsFlag (number (codes "quiet")) s.quiet
 
--- The record o has the values that the command line gives to the settings, to the Boolean of `--explain`, and to the
--- Boolean of `--progress`.
+-- The record o has the settings that the command line gives. Two Booleans of o say whether the command line has
+-- `--explain` and `--progress`.
 abbrev pub AreOptions : (List ℕ → Option (List ℕ)) → (List ℕ → Option (List ℕ)) → Options → Type 0
 AreOptions text number o = AreSettings text number o.settings
     × IsFlag (number (codes "explain")) o.explain × IsFlag (number (codes "progress")) o.progress

@@ -16,12 +16,11 @@ use Rattle.couch_replicate.specs.declared.options.Options.{Options}
 use Rattle.couch_replicate.specs.declared.run.Ended.{Ended}
 use Rattle.couch_replicate.specs.declared.run.Ended.TheVariants.{NotRun, Ran}
 
--- States what the program writes when it runs a script with the settings of `program`. After an error the program's
--- output is a prefix of the script's complete output. After the errors `Read` and `Memory`, the program's output ends
--- between the outputs of two lines. After the error `Read`, the program's output is the output of all lines that were
--- read. The argument `given` of `Answered` is a predicate of the script's bytes, and `taken` is a predicate of the
--- bytes that were read. In `Answered`, the writer had been given the bytes `held` when the run began, and the bytes
--- `held'` when the run ended.
+-- States what the program writes when it runs a script with the settings of `program`. If a run fails, the program's
+-- output is a prefix of the script's complete output. If the error is `Read` or `Memory`, the program's output does not
+-- end within the output of a line. If the error is `Read`, the program's output is the output of all lines that were
+-- read. The predicate `given` is true of the script's bytes, and the predicate `taken` is true of the bytes that were
+-- read. The writer had received the bytes `held` when the run began, and the bytes `held'` when the run ended.
 abbrev pub Answered : Program → (List ℕ → Type 0) → (List ℕ → Type 0) → Option (List ℕ) → Option (List ℕ)
     → Result Bool ScriptFault → Type 0
 Answered program given taken held held' (Ok clean) =
@@ -35,13 +34,13 @@ Answered program given taken held held' (Err fault) =
 
 -- States what a run of `couch_replicate` with the command line `words` reads, writes and returns. If the command line
 -- gives no settings, no byte is read or written. If the command line gives settings, a script is run with these
--- settings. The writer has passed on the script's output, unless a write failed. The statement `Answered` is made
--- twice: once with the reader's remaining bytes as the script's input, and once with the bytes that the reads returned.
--- If a run of a script succeeded, the script's input has ended. The arguments `left` and `left'` of `RunsWords` are the
--- remaining bytes of the reader before and after the run. The reader had returned the bytes `took` when the run began,
--- and the bytes `took'` when the run ended. The argument `at_end` of `RunsWords` says whether the reads reached the
--- input's end. The writer had been given the bytes `held` when the run began, and the bytes `held'` when the run ended.
--- The argument `sent` has the bytes that the writer passed on.
+-- settings. The writer has passed on the script's output, unless a write failed. The relation `Answered` is true for
+-- two scripts: all bytes that remained in the reader before the run, and the bytes that the reads returned. If a run of
+-- a script succeeded, the script's input has ended. The arguments `left` and `left'` of `RunsWords` are the remaining
+-- bytes of the reader before and after the run. The reader had returned the bytes `took` when the run began, and the
+-- bytes `took'` when the run ended. The argument `at_end` of `RunsWords` says whether the reads reached the input's
+-- end. The writer had received the bytes `held` when the run began, and the bytes `held'` when the run ended. The
+-- argument `sent` has the bytes that the writer passed on.
 abbrev pub RunsWords : List (List ℕ) → Option (List ℕ) → Option (List ℕ) → Option (List ℕ) → Option (List ℕ) → Type 0
     → Option (List ℕ) → Option (List ℕ) → Option (List ℕ) → Ended → Type 0
 RunsWords words left left' took took' at_end held held' sent (NotRun why) =

@@ -30,9 +30,9 @@ first_chain = codes "start"
 unfoldable pub first_seq : List ℕ
 first_seq = codes "0"
 
--- The lines of a journal are blocks with right checksums. The second and third arguments of `Confirmed` are the hash
--- and the sequence of the last block. For a journal without blocks, the second argument of `Confirmed` is
--- `first_chain`, and the third argument is `first_seq`.
+-- The lines of a journal are blocks with right checksums. The arguments of `Confirmed` are the journal's lines, and the
+-- hash and the sequence of the journal's last block. If the journal has no blocks, the hash is `first_chain` and the
+-- sequence is `first_seq`.
 pub data Confirmed : List (List ℕ) → List ℕ → List ℕ → Type 0 where
   nothing : Confirmed [] first_chain first_seq
   block : {lines : List (List ℕ)} {chain seq : List ℕ} (body : List (List ℕ)) (next : List ℕ) → Confirmed lines chain seq

@@ -6,8 +6,9 @@ use Rattle.journal_core.specs.declared.blocks.Blocks.{Blocks}
 use Rattle.journal_core.specs.declared.blocks.Took.{Took}
 use Rattle.journal_core.specs.declared.blocks.Took.TheVariants.{Held, Closed, Damaged}
 
--- A reader's place in a journal has the last confirmed block's hash and sequence, the confirmed lines, and the lines of
--- the current block. The field `whole` of a reader's place is true if the reader has not read a wrong checksum.
+-- The place of a reader in a journal: the hash and the sequence of the last confirmed block, all confirmed lines, and
+-- the lines of the current block. The field `whole` of a reader's place is true if the reader has not read a wrong
+-- checksum.
 pub record Place : Type 0 where
   pub chain : List ℕ
   pub seq : List ℕ
@@ -26,11 +27,11 @@ seq_of count line = drop (length (sum_head count) + 65) line
 unfoldable pub hash_at : Place → List ℕ → List ℕ
 hash_at place line = block_hash place.chain (seq_of (length place.held) line) (joined place.held)
 
--- The last line of the current block, with the block sequence that `line` names and the right checksum.
+-- The line that ends the current block with the right checksum, and with the sequence that the line `line` has.
 unfoldable pub right_end : Place → List ℕ → List ℕ
 right_end place line = sum_line (length place.held) (hash_at place line) (seq_of (length place.held) line)
 
--- The hash of the current block, or `None` if the given line does not end the block with a right checksum.
+-- The hash of the current block if the given line ends the block with the right checksum, otherwise `None`.
 unfoldable pub end_in : Place → List ℕ → Option (List ℕ)
 end_in place line = if bytes_eq line (right_end place line) then Some (hash_at place line) else None
 
@@ -69,7 +70,7 @@ next place line = if place.whole then (if is_sum line then ended place line else
 abbrev pub place_after : List (List ℕ) → Place
 place_after lines = fold next start lines
 
--- The fields of the journal reader `blocks` store `place`, the reader's position in the journal.
+-- The fields of the journal reader `blocks` represent the reader's place `place` in the journal.
 pub record IsAt (blocks : Blocks) (place : Place) : Type 0 where
   pub chain : blocks.chain.items ≡ place.chain
   pub seq : blocks.seq.items ≡ place.seq
@@ -79,7 +80,7 @@ pub record IsAt (blocks : Blocks) (place : Place) : Type 0 where
   pub lines : blocks.lines ≡ length place.confirmed
   pub whole : blocks.whole ≡ place.whole
 
--- Whether every line that a journal reader has read before the position `place` belongs to a confirmed block.
+-- Whether all lines that a journal reader has read are in confirmed blocks, given the reader's place.
 abbrev pub is_confirmed : Place → Bool
 is_confirmed place = place.whole && nat_eq (length (joined place.held)) 0
 

@@ -8,8 +8,8 @@ use Rattle.journal_core.specs.Journal.{Confirmed, block_hash, is_sum, sum_line}
 use Rattle.journal_core.specs.Wrong.{first_index, wrong_at}
 use Rattle.journal_core.specs.declared.seal.Seal.{Seal}
 
--- The number of lines before the first wrong line of a block, if the block has a wrong line. The argument `wrong` says
--- whether the newest line, which follows `count` lines, is wrong.
+-- The number of lines before the first wrong line of a block, if the block has a wrong line. The Boolean `wrong` says
+-- whether the newest line is wrong, and `count` is the number of lines before the newest line.
 abbrev pub wrong_after : Option ℕ → Bool → ℕ → Option ℕ
 wrong_after (Some n) wrong count = Some n
 wrong_after None true count = Some count
@@ -44,8 +44,8 @@ EndsSeal old rest text new =
     (new.wrong ≡ None → EndsRight old rest text) × ((count : ℕ) → new.wrong ≡ Some count → EndsWrong old rest text count)
 
 -- The input satisfies the predicate `given`, and consists of the lines of a block. The line that ends the block is
--- written. If a journal with the last hash `chain` is confirmed (`Confirmed`), it stays confirmed after the block's
--- lines and the line that ends the block are appended.
+-- written. If a journal is confirmed (`Confirmed`) and its last hash is `chain`, the journal stays confirmed after the
+-- block is appended, including the line that ends the block.
 pub record IsSealedOn (chain seq : List ℕ) (given : List ℕ → Type 0) (held held' : Option (List ℕ)) : Type 0 where
   pub lines : List (List ℕ)
   pub gives : given (joined lines)
@@ -54,8 +54,8 @@ pub record IsSealedOn (chain seq : List ℕ) (given : List ℕ → Type 0) (held
   pub continues : (before : List (List ℕ)) (seq' : List ℕ) → Confirmed before chain seq'
       → Confirmed (before ++ (lines ++ sum_line (length lines) (block_hash chain seq (joined lines)) seq ∷ [])) (block_hash chain seq (joined lines)) seq
 
--- The input satisfies the predicate `given` but has a line that a block cannot contain, and no byte is written. The
--- argument `count` is the number of lines before the first line that a block cannot contain.
+-- The input satisfies the predicate `given`, but a block cannot contain all lines of the input. The call writes no
+-- byte. The first line that a block cannot contain comes after `count` other lines.
 pub record IsUnsealedOn (count : ℕ) (given : List ℕ → Type 0) (held held' : Option (List ℕ)) : Type 0 where
   pub input : List ℕ
   pub lines : List (List ℕ)
@@ -78,8 +78,8 @@ SealsOn chain seq given held held' (Some count) = IsUnsealedOn count given held 
 abbrev pub SealsBlock : List ℕ → List ℕ → Option (List ℕ) → Option (List ℕ) → Option (List ℕ) → Option ℕ → Type 0
 SealsBlock chain seq left held held' wrong = SealsOn chain seq (Gives left) held held' wrong
 
--- The result of a call that seals a block. The input of the call is the list of bytes that the reads during the call
--- returned. The arguments `taken` and `taken'` are the reader's histories of returned bytes before and after the call.
+-- The result of a call that seals a block. The input of the call is the list of bytes that the reader returned during
+-- the call. The reader had returned the bytes `taken` before the call, and the bytes `taken'` by the end of the call.
 abbrev pub HasSealed : List ℕ → List ℕ → Option (List ℕ) → Option (List ℕ) → Option (List ℕ) → Option (List ℕ) → Option ℕ → Type 0
 HasSealed chain seq taken taken' held held' wrong = SealsOn chain seq (Appends taken taken') held held' wrong
 
@@ -89,12 +89,12 @@ IsSeal chain seq input text =
     (lines : List (List ℕ)) × (input ≡ joined lines) × All (λ line. is_sum line ≡ false) lines
     × (text ≡ sum_line (length lines) (block_hash chain seq (joined lines)) seq ++ codes "\n")
 
--- The input consists of the lines of a block, and the output is a prefix of the line that ends the block.
+-- The input has the lines of a block. The output is the beginning of the line that ends the block.
 abbrev pub IsSealedPart : List ℕ → List ℕ → List ℕ → List ℕ → Type 0
 IsSealedPart chain seq input text = (back : List ℕ) × IsSeal chain seq input (text ++ back)
 
--- An error stopped the sealing of a block. The output is empty, or a prefix of the line that ends the block. If the
--- output is not empty, the input was read to its end (`ended`).
+-- An error stopped the sealing of a block. The output is empty, or is the beginning of the line that ends the block. If
+-- the output is not empty, the input was read to its end (`ended`).
 abbrev pub HasSealedPart : List ℕ → List ℕ → Type 0 → Option (List ℕ) → Option (List ℕ) → Option (List ℕ) → Option (List ℕ)
     → Type 0
 HasSealedPart chain seq ended taken taken' held held' =

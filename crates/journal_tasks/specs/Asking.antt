@@ -9,15 +9,15 @@ use Rattle.journal_tasks.specs.declared.ask.Ask.{Ask}
 abbrev pub asked_leaf : List ℕ × List ℕ → List ℕ
 asked_leaf leaf = codes "{\"id\":" ++ quoted leaf.0 ++ codes ",\"rev\":" ++ quoted leaf.1 ++ codes "}"
 
--- The items of a `_bulk_get` request for the given leaves. If the request has already begun, a comma precedes the first
--- item; if not, `{"docs":[` precedes the first item.
+-- The items of a `_bulk_get` request for the given leaves. If the request already has items (`begun`), a comma precedes
+-- the first given item. If not, `{"docs":[` precedes the first given item.
 abbrev pub asked_items : Bool → List (List ℕ × List ℕ) → List ℕ
 asked_items begun [] = []
 asked_items begun (leaf ∷ leaves) =
     (if begun then codes "," else codes "{\"docs\":[") ++ asked_leaf leaf ++ asked_items true leaves
 
--- Whether a `_bulk_get` request has items after items for `leaves` were added. The request then has items if it already
--- had items (`begun`), or if `leaves` is not empty.
+-- Whether a `_bulk_get` request has items, once an item for each leaf in the list `leaves` is added. The result is true
+-- if the request had items before (`begun`), or if the list `leaves` is not empty.
 abbrev pub has_begun : Bool → List (List ℕ × List ℕ) → Bool
 has_begun begun [] = begun
 has_begun begun (leaf ∷ leaves) = true

@@ -24,25 +24,26 @@ ids_in wrong = []
 abbrev pub names_id : List (List ℕ) → List ℕ → Bool
 names_id lines id = list_any (bytes_eq id) (flat_map (λ line. ids_in (entry_in line)) lines)
 
--- The sequence, the document and the leaves that a line of a list names. A line with a document has the sequence `-`.
+-- The sequence, the document and the leaves that a line of a list names. If the line has a document, the text `-`
+-- replaces the sequence.
 abbrev pub named_leaves : EntryView → List LeavesView
 named_leaves (state leaves) = leaves ∷ []
 named_leaves (lacks leaves) = leaves ∷ []
 named_leaves (leaf head) = (codes "-", head.0, head.1.0 ∷ []) ∷ []
 named_leaves wrong = []
 
--- The line that is printed for the leaves `leaves` of a document of the second list. With the flag `documents`, the
--- line has all leaves, and is printed if the document is not known. Without the flag `documents`, the line for the
--- document has the leaves in `missing`, and is printed if `missing` is not empty.
+-- The line that is printed for the leaves `leaves` of a document of the second list. If the flag `documents` is set,
+-- the line has all of these leaves, and is printed only if the document is not known (`known`). If the flag `documents`
+-- is not set, the line has only the leaves in `missing`, and is printed only if `missing` is not empty.
 abbrev pub compared_line : Bool → Bool → List (List ℕ) → LeavesView → List ℕ
 compared_line true known missing leaves =
     if known then [] else leaves_line (codes "state") leaves.0 leaves.1 leaves.2
 compared_line false known missing leaves =
     if is_empty missing then [] else leaves_line (codes "state") leaves.0 leaves.1 missing
 
--- The line that is printed for the leaves `leaves` of a document (`compared_line`). For a document's id, `knows` says
--- whether the input's first list names the document. For a leaf's document id and revision, `has` says whether the
--- input's first list has the leaf.
+-- The line that is printed for the leaves `leaves` of a document (`compared_line`). The function `knows` takes a
+-- document's id, and says whether the input's first list names the document. The function `has` takes a document's id
+-- and a revision, and says whether the first list has this leaf.
 abbrev pub compared_by : Bool → (List ℕ → Bool) → (List ℕ → List ℕ → Bool) → LeavesView → List ℕ
 compared_by documents knows has leaves =
     compared_line documents (knows leaves.1) (filter (λ rev. not (has leaves.1 rev)) leaves.2) leaves
@@ -55,8 +56,8 @@ compared documents first line = flat_map (compared_by documents (names_id first)
 abbrev pub compared_text : Bool → List (List ℕ) → List ℕ
 compared_text documents lines = flat_map (compared documents (first_part lines)) (second_part lines)
 
--- For each line of an input, whether the line is wrong, that is, not a valid line of a list. The empty line between the
--- input's two lists is not wrong.
+-- For each line of an input, whether the line is wrong, that is, not a valid line of a list. The empty line that
+-- separates the input's two lists does not count as wrong.
 abbrev pub list_flags : List (List ℕ) → List Bool
 list_flags lines = part_flags is_wrong is_wrong lines
 

@@ -18,7 +18,8 @@ diff_member doc = key doc.0 ∷ begin_array ∷ (map string doc.1 ++ end_array �
 abbrev pub diff_body : DocsView → List ℕ
 diff_body docs = print (begin_object ∷ (flat_map diff_member docs ++ end_object ∷ [])) ++ codes "\n"
 
--- The output for a complete list: the request for all documents of the list, or nothing if a line of the list is wrong.
+-- The output for a complete list: the request for all documents of the list. If a line of the list is wrong, the output
+-- is empty.
 abbrev pub diff_text : List (List ℕ) → List ℕ → List ℕ
 diff_text lines rest = if is_none (wrong_line is_wrong lines rest) then diff_body (docs_of (leaves_in lines)) else []
 

@@ -20,8 +20,8 @@ abbrev pub has_second_part : List (List ℕ) → Bool
 has_second_part lines = list_any is_empty_line lines
 
 -- For each line of an input, whether the line is wrong. The test `first` says which lines of the first part are wrong,
--- and `second` says which lines of the second part are wrong. The empty line between the input's two parts is not
--- wrong.
+-- and `second` says which lines of the second part are wrong. The empty line that separates the input's two parts does
+-- not count as wrong.
 abbrev pub part_flags : (List ℕ → Bool) → (List ℕ → Bool) → List (List ℕ) → List Bool
 part_flags first second lines =
     map first (first_part lines) ++ (if has_second_part lines then false ∷ map second (second_part lines) else [])

@@ -46,8 +46,9 @@ missing_among docs members = if are_about docs members then Some (missing_leaves
 abbrev pub missing_by : DocsView → List ℕ → Option (List (List ℕ × List ℕ))
 missing_by docs response = option_and_then (missing_among docs) (option_and_then as_object (option_and_then document (text_in response)))
 
--- The line that is printed for a document and its revisions: the revisions that are missing, if there are such
--- revisions. A revision is missing if `is_missing` is true of the document's id and of the revision.
+-- The line that is printed for a document and its revisions. The line has the revisions that are missing. If no
+-- revision is missing, the text is empty. A revision is missing if `is_missing` is true of the document's id and of the
+-- revision.
 abbrev pub missing_line : (List ℕ → List ℕ → Bool) → List ℕ × List (List ℕ) → List ℕ
 missing_line is_missing doc =
     let revs = filter (is_missing doc.0) doc.1 in
@@ -73,12 +74,12 @@ missing_in_input lines rest =
 abbrev pub diffed_flags : List (List ℕ) → List Bool
 diffed_flags lines = part_flags is_wrong (λ line. false) lines
 
--- The number of the first wrong line of the list. If the response is absent, the bytes `rest` after the last line end
--- are a line of the list.
+-- The number of the first wrong line of the list. If the response is absent, and the input has bytes `rest` after its
+-- last line end, these bytes are a wrong line of the list.
 abbrev pub wrong_diffed : List (List ℕ) → List ℕ → Option ℕ
 wrong_diffed lines rest = wrong_line (λ wrong. wrong) (diffed_flags lines) (if has_second_part lines then [] else rest)
 
--- The output for the complete input: nothing if a line of the list is wrong.
+-- The output for the complete input. If a line of the list is wrong, the output is empty.
 abbrev pub missing_text : List (List ℕ) → List ℕ → List ℕ
 missing_text lines rest =
     if is_none (wrong_diffed lines rest) then missing_lines (diffed_docs lines) (missing_in_input lines rest) else []

@@ -81,12 +81,13 @@ wrong_flags lines =
 abbrev pub wrong_received : List (List ℕ) → List ℕ → Option ℕ
 wrong_received lines rest = wrong_line (λ wrong. wrong) (wrong_flags lines) rest
 
--- The text that is printed for a line of a response. If the flag `only` is set, only missing leaves are printed.
+-- The text that is printed for a line of a response: the line, if it has a requested document and the flag `only` is
+-- not set. Otherwise the text is empty.
 abbrev pub passed_line : Bool → List LeavesView → List ℕ → List ℕ
 passed_line only requested line = if is_answer requested (entry_in line) && not only then line ++ codes "\n" else []
 
--- The text that `receive_leaves` prints before the input's end, which is the lines of the response with requested
--- documents, or empty if `only` is true.
+-- The text that `receive_leaves` prints before the input's end. If `only` is false, the text has the lines of the
+-- response that have requested documents. If `only` is true, the text is empty.
 abbrev pub passed_on : Bool → List (List ℕ) → List ℕ
 passed_on only lines = flat_map (passed_line only (requested_in (first_part lines))) (second_part lines)
 
@@ -146,22 +147,21 @@ doc_at docs id = option_map doc_view (get_by_text docs id)
 abbrev pub doc_or_new : Option DocView → DocView
 doc_or_new doc = unwrap_or doc ([], [])
 
--- The data that `receive_leaves` stores for a requested revision after it has received the leaf `arrived`. The
--- requested revision counts as received if it was received before, or if it is the leaf `arrived` or an ancestor of
--- this leaf.
+-- The data that `receive_leaves` stores for a requested revision after receiving the leaf `arrived`. The requested
+-- revision counts as received if it was received before, or if it is the leaf `arrived` or an ancestor of this leaf.
 abbrev pub received_by : LeafView → WantedView → WantedView
 received_by arrived wanted = (wanted.0, wanted.1 || knows_rev arrived wanted.0)
 
--- The data that `receive_leaves` stores for a document after it has read a request for the document's revisions `revs`.
+-- The data that `receive_leaves` stores for a document after reading a request for the document's revisions `revs`.
 abbrev pub with_wanted : List (List ℕ) → DocView → DocView
 with_wanted revs doc = (doc.0 ++ map (λ rev. (rev, false)) revs, doc.1)
 
--- The data that `receive_leaves` stores for a document after it has received the document's leaf `arrived`.
+-- The data that `receive_leaves` stores for a document after receiving the document's leaf `arrived`.
 abbrev pub with_leaf : LeafView → DocView → DocView
 with_leaf arrived doc = (map (received_by arrived) doc.0, add_rev doc.1 arrived.0)
 
--- The data that `receive_leaves` stores for the document `id` after it has read a request line with the leaves `leaves`
--- of one document.
+-- The data that `receive_leaves` stores for the document `id` after reading a request line with the leaves `leaves` of
+-- one document.
 abbrev pub wanted_at : LeavesView → (List ℕ → Option DocView) → List ℕ → Option DocView
 wanted_at leaves docs id =
     if bytes_eq leaves.1 id then Some (with_wanted leaves.2 (doc_or_new (docs leaves.1))) else docs id
@@ -178,7 +178,7 @@ requested_by wrong docs id = docs id
 abbrev pub leaf_at : HeadView → (List ℕ → Option DocView) → List ℕ → Option DocView
 leaf_at head docs id = if bytes_eq head.0 id then option_map (with_leaf head.1) (docs head.0) else docs id
 
--- The data that `receive_leaves` stores for the document `id` after it has read one line of the response.
+-- The data that `receive_leaves` stores for the document `id` after reading one line of the response.
 abbrev pub answered_by : EntryView → (List ℕ → Option DocView) → List ℕ → Option DocView
 answered_by (state leaves) docs id = docs id
 answered_by (lacks leaves) docs id = docs id
@@ -207,8 +207,8 @@ abbrev pub told_by : Bool → Option DocView → LeavesView → List ℕ
 told_by only None leaves = []
 told_by only (Some doc) leaves = told_of only doc.1 (unmarked doc.0 leaves.2) leaves
 
--- Whether a line of the request names a revision that was not received, according to the data stored for the line's
--- document.
+-- Whether a line of the request names a revision that was not received. The data stored for the line's document says
+-- which revisions were received. If no data is stored for the document, the result is false.
 abbrev pub lacks_by : Option DocView → LeavesView → Bool
 lacks_by None leaves = false
 lacks_by (Some doc) leaves = not (is_empty (unmarked doc.0 leaves.2))

@@ -14,9 +14,9 @@ has_space limit lines bytes size = nat_eq lines 0 || nat_lt lines limit.1 && nat
 abbrev pub fits : ℕ × ℕ → List (List ℕ) → List ℕ → Bool
 fits limit part line = has_space limit (length part) (length (joined part)) (length line)
 
--- The parts after one more line. The value `parts` has the complete parts and the last part before the line. The last
--- part takes the line if the line fits. If the line does not fit into the last part, the last part is complete, and the
--- line begins a new part.
+-- The parts of an input after the line `line` is added. Before the line is added, `parts` has the complete parts and
+-- the last part. If the line fits into the last part, the line is appended to this part. If the line does not fit, the
+-- last part is complete, and the line begins a new part.
 abbrev pub with_line : ℕ × ℕ → List (List (List ℕ)) × List (List ℕ) → List ℕ → List (List (List ℕ)) × List (List ℕ)
 with_line limit parts line = if fits limit parts.1 line then (parts.0, parts.1 ++ line ∷ []) else (parts.0 ++ parts.1 ∷ [], line ∷ [])
 
@@ -37,8 +37,8 @@ printed_part part = part_text (length part) (joined part)
 abbrev pub complete_text : ℕ × ℕ → List (List ℕ) → List ℕ
 complete_text limit lines = flat_map printed_part (split limit lines).0
 
--- The text that is printed for the last part, which has `lines` lines and the bytes `bytes`. A part without lines is
--- not printed.
+-- The text that is printed for the last part. The last part has `lines` lines, and consists of the bytes `bytes`. A
+-- part without lines is not printed.
 abbrev pub last_text : ℕ → List ℕ → List ℕ
 last_text lines bytes = if nat_eq lines 0 then [] else part_text lines bytes
 

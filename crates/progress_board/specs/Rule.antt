@@ -40,28 +40,30 @@ abbrev pub added_settled : SeatView → ℕ → SeatView
 added_settled v n =
     seat_view v.deals v.works v.number v.reads (slice_set v.settles v.number (slice_index v.settles v.number + n))
 
--- When a seat loads the value n of worker i's read counter, the state of the seat changes from v to w. Before a seat
--- loads the value n of a read counter, the seat's lower bound of the counter is at most n. After the seat has loaded
--- the read counter's value n, the seat's lower bound of the counter is n. If the loaded counter belongs to the seat's
--- own worker, the seat's lower bound is equal to n already before the load.
+-- A seat (an access token for a progress board) loads worker i's read counter, which has the value n. The load changes
+-- the seat's state from v to w. Before a seat loads the value n of a read counter, the seat's lower bound of the
+-- counter is at most n. After the seat has loaded the read counter's value n, the seat's lower bound of the counter is
+-- n. If a seat loads a counter of the seat's own worker, the seat's lower bound is equal to the loaded value n already
+-- before the load.
 abbrev pub SeesRead : SeatView → ℕ → ℕ → SeatView → Type 0
 SeesRead v i n w =
     (w ≡ seat_view v.deals v.works v.number (slice_set v.reads i n) v.settles)
     × (slice_index v.reads i ≤ n) × (n ≤ most) × (v.works ≡ true → v.number ≡ i → n ≡ slice_index v.reads i)
 
--- When a seat loads the value n of worker i's settled counter, the state of the seat changes from v to w. Before a seat
--- loads the value n of a settled counter, the seat's lower bound of the counter is at most n. After the seat has loaded
--- the settled counter's value n, the seat's lower bound of the counter is n. The seat's lower bound of the same
--- worker's read counter is then at least n. If the loaded counter belongs to the seat's own worker, the seat's lower
--- bound is equal to n already before the load.
+-- A seat (an access token for a progress board) loads worker i's settled counter, which has the value n. The load
+-- changes the seat's state from v to w. Before a seat loads the value n of a settled counter, the seat's lower bound of
+-- the counter is at most n. After the seat has loaded the settled counter's value n, the seat's lower bound of the
+-- counter is n. After a seat has loaded the value n of a worker's settled counter, the seat's lower bound of this
+-- worker's read counter is at least n. If a seat loads a counter of the seat's own worker, the seat's lower bound is
+-- equal to the loaded value n already before the load.
 abbrev pub SeesSettled : SeatView → ℕ → ℕ → SeatView → Type 0
 SeesSettled v i n w =
     (w ≡ seat_view v.deals v.works v.number (slice_set v.reads i (max (slice_index v.reads i) n))
     (slice_set v.settles i n))
     × (slice_index v.settles i ≤ n) × (n ≤ most) × (v.works ≡ true → v.number ≡ i → n ≡ slice_index v.settles i)
 
--- The seat v (an access token for a progress board) stores only true statements about the values `words` of the board's
--- counters.
+-- A progress board has k workers, and `words` has the values of the board's counters. All that the seat v (an access
+-- token for the board) stores about these values is true.
 pub record Fits (k : ℕ) (words : List ℕ) (v : SeatView) : Type 0 where
   pub read_size : length v.reads ≡ k
   pub settle_size : length v.settles ≡ k
@@ -79,9 +81,9 @@ abbrev pub InOrder : ℕ → List ℕ → Type 0
 InOrder k words = (j : ℕ) → j < k → (slice_index words (k + j) ≤ slice_index words j) × (slice_index words j ≤ most)
 
 -- The invariant of a progress board. No worker's settled counter exceeds the worker's read counter. What each seat (an
--- access token for the board) stores about the counters is true. The numbers of the workers' seats are distinct. Each
--- of them is less than the number that a dealer gives to the next worker's seat. A board has at most one dealer (the
--- value that creates the board's seats).
+-- access token for the board) stores about the counters is true. The numbers of the workers' seats are distinct. The
+-- number of a worker's seat is less than the number that a dealer gives to the next worker's seat. A board has at most
+-- one dealer (the value that creates the board's seats).
 pub record Kept (k : ℕ) (words : List ℕ) (views : List SeatView) : Type 0 where
   pub size : length words ≡ k + k
   pub order : InOrder k words
@@ -95,7 +97,8 @@ pub record Kept (k : ℕ) (words : List ℕ) (views : List SeatView) : Type 0 wh
 
 -- ---- new views
 
--- The view of a new seat (an access token for a progress board): the seat knows only that each counter is at least 0.
+-- The view v of a new seat (an access token for a board with k workers): the lower bound of each counter is 0. The
+-- Boolean `works` says whether the seat belongs to a worker, and `number` is the seat's number.
 abbrev pub IsFresh : ℕ → Bool → ℕ → SeatView → Type 0
 IsFresh k works number v =
     (v.works ≡ works) × (v.number ≡ number) × (v.reads ≡ replicate k 0) × (v.settles ≡ replicate k 0)

@@ -64,11 +64,11 @@ comparison_lines id c =
 abbrev pub compared_lines : DatabaseValue → DatabaseValue → RowValue → List ℕ
 compared_lines source target r = comparison_lines r.id (compared_at source target r.id)
 
--- In the last line of `compare`, the text with the numbers of compared documents and leaves.
+-- The part of the last line of `compare` that gives the numbers of compared documents and leaves.
 abbrev pub compared_part : Total → List ℕ
 compared_part t = codes "compared " ++ decimal t.documents ++ codes " documents " ++ decimal t.leaves ++ codes " leaves"
 
--- In the last line of `compare`, the text with the numbers of differences.
+-- The part of the last line of `compare` that gives the numbers of differences.
 abbrev pub found_part : Total → List ℕ
 found_part t =
     codes " missing " ++ decimal t.missing ++ codes " contradicting " ++ decimal t.contradicting ++ codes " differing "
@@ -90,7 +90,7 @@ compare_left s r =
     flat_map (compared_lines source.db target.db) (rows_left source.db r.walk)
     ++ compared_line (total_of (comparisons source.db target.db (rows_walked source.db r.walk)))))
 
--- The totals that `compare` has counted so far are the totals of the feed rows whose lines have been printed.
+-- The totals of `compare` so far count exactly the feed rows whose lines `compare` has already printed.
 abbrev pub FitsCompare : State → CompareRest → Type 0
 FitsCompare s r =
     holds_in (peer_at s (string_bytes r.source)) (λ source. holds_in (peer_at s (string_bytes r.target)) (λ target.

@@ -53,8 +53,8 @@ abbrev pub conflicts_left : State → ConflictsRest → List ℕ
 conflicts_left s r =
     left_in (peer_at s (string_bytes r.db)) (λ l. flat_map (conflict_line l.db) (rows_left l.db r.walk) ++ conflicts_line (census_of (trees l.db)))
 
--- The counts of the command `conflicts` are the counts for the documents of all feed rows that it has processed. The
--- command `conflicts` reads the feed of all documents.
+-- So far, the command `conflicts` has counted exactly the documents of the feed rows that it has processed. The command
+-- `conflicts` reads the feed of all documents.
 abbrev pub FitsConflicts : State → ConflictsRest → Type 0
 FitsConflicts s r =
     holds_in (peer_at s (string_bytes r.db)) (λ l. (earlier : List RowValue)

@@ -32,7 +32,7 @@ info_in d = do
 
 -- ---- its output
 
--- In the output of `info`, the text with a database's name, UUID, update sequence and life (the number that each
+-- The part of the output of `info` that gives a database's name, UUID, update sequence and life (the number that each
 -- restore of the database raises).
 abbrev pub identity_part : List ℕ → DatabaseValue → List ℕ
 identity_part name db =

@@ -53,7 +53,8 @@ parents_part known given = codes " known " ++ known ++ codes " given " ++ given
 abbrev pub denied_line : List ℕ → List ℕ → List ℕ
 denied_line id rev = ended (rev_part (codes "denied") id rev)
 
--- The line that `ledger` prints for a document in which a revision has another parent than in the target's tree.
+-- The line that `ledger` prints for a refused document if one of the document's revisions has another parent in the
+-- target's tree.
 abbrev pub contradicted_line : List ℕ → List ℕ → List ℕ → List ℕ → List ℕ
 contradicted_line id rev known given =
     ended (rev_part (codes "contradicted") id rev ++ parents_part known given)

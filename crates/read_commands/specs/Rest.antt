@@ -16,8 +16,8 @@ rest_left s (Compare r) = compare_left s r.value
 rest_left s (Conflicts r) = conflicts_left s r.value
 rest_left s (Docs r) = docs_left s r.value
 
--- The command's totals so far are correct: they count exactly the processed rows of the feed in the databases' state s.
--- The command `docs` computes no totals.
+-- In the state s of the databases, the command's totals so far count exactly the feed rows that the command has
+-- processed. The command `docs` computes no totals.
 abbrev pub FitsRest : State → Rest → Type 0
 FitsRest s (Compare r) = FitsCompare s r.value
 FitsRest s (Conflicts r) = FitsConflicts s r.value
@@ -28,8 +28,8 @@ abbrev pub told_from : State → Result Rest Refusal → Told
 told_from s (Ok rest) = Ok (rest_left s rest)
 told_from s (Err refusal) = Err (name_of refusal)
 
--- The result of a line that has already printed the pieces `text`: the pieces `text` and the remaining output, or the
--- name of the error.
+-- The result of a line that has already printed the text `text`. If the line succeeds, its result is `text`, followed
+-- by the remaining output. If the line fails, its result is the name of the error.
 abbrev pub told_begun : State → Result (Option Rest) Refusal → List ℕ → Told
 told_begun s (Ok rest) text = Ok (text_with (rest_left s) text rest)
 told_begun s (Err refusal) text = Err (name_of refusal)

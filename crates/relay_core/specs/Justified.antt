@@ -21,9 +21,9 @@ abbrev pub is_too_large : Side → ℕ → Bool
 is_too_large Target status = status == 413
 is_too_large Source status = false
 
--- Whether a response to a `carry` request refuses the given leaf. If the target rejects a request as too large, and the
--- request has only the leaf's document, the response refuses the leaf. A `carry` request transfers documents to the
--- target.
+-- Whether a response to a `carry` request refuses the given leaf. A `carry` request transfers documents to the target.
+-- If the target rejects the request as too large, the response refuses the leaf exactly if the leaf's document is the
+-- only document of the request.
 abbrev pub rejects : RequestView → ResponseView → Text → Text → Bool
 rejects (carry_docs docs) (row_errors_response rows) id leaf = refuses rows id leaf
 rejects (carry_docs docs) (rejected_response side status words) id leaf = is_too_large side status && is_alone docs id
@@ -39,7 +39,7 @@ is_rejected h id leaf = list_any (λ e. rejects e.request e.response id leaf) h
 abbrev pub AreSettled : List Exchange → List DocView → Type 0
 AreSettled h rows = (id leaf : Text) → names rows id leaf ≡ true → (is_found h id leaf || is_rejected h id leaf) ≡ true
 
--- The leaves of a page's rows, without the leaves that the target has according to a response (`is_found`).
+-- Those leaves of a page's rows for which no response shows that the target has them (`is_found`).
 abbrev pub not_found : List Exchange → List DocView → List DocView
 not_found h rows = docs_where (λ id leaf. not (is_found h id leaf)) rows
 
@@ -50,8 +50,8 @@ abbrev pub log_in : ResponseView → Option LogView
 log_in (log_response log) = Some log
 log_in r = None
 
--- After an exchange, the log that the server `side` (the source or the target) has returned last. The parameter
--- `before` is the log that the server had last returned before the exchange.
+-- The log that the server `side` (the source or the target) has returned last, up to and including an exchange. The
+-- parameter `before` is the log that the server had last returned before the exchange.
 abbrev pub log_after : Side → RequestView → ResponseView → Option LogView → Option LogView
 log_after Source (get_log Source) r before = log_in r
 log_after Target (get_log Target) r before = log_in r
@@ -80,9 +80,10 @@ seq_of (Some pair) = pair.1
 
 -- ---- progress of a run
 
--- The relay has read consecutive pages of changes from the sequence `begin` to the sequence s. After each page, the
--- target had, or refused, each leaf of the page. The number n counts the refused leaves of the pages. A leaf is not
--- counted if a later response showed that the target has the leaf.
+-- The relay has read consecutive pages of changes from the sequence `begin` to the sequence s. For each leaf of a page,
+-- a later response showed that the target has the leaf, or refused the leaf. The number n counts the refused leaves of
+-- the pages. A leaf is not counted if a response during the page's transfer (`after`) showed that the target has the
+-- leaf.
 pub data Reached : Text → List Exchange → Text → ℕ → Type 0 where
   begun : {begin : Text} {h : List Exchange} {s : Text} {n : ℕ} → begin ≡ s → n ≡ 0 → Reached begin h s n
   paged : {begin : Text} {h : List Exchange} {s : Text} {n : ℕ} (before after rest : List Exchange) (since : Text) (wait : Option ℕ) (page : PageView) (m : ℕ) → h ≡ rest ++ (after ++ exchange_of (get_changes since wait) (page_response page) ∷ before) → Reached begin before since m → AreSettled after page.rows → page.last_seq ≡ s → n ≡ m + leaf_count (not_found after page.rows) → Reached begin h s n
@@ -115,15 +116,16 @@ pub record IsReady (h : List Exchange) (side : Side) (log : LogView) (s : Text) 
   pub ready : AreReady h target source s failures
   pub own : log ≡ log_of side target source
 
--- In the exchange of the request q and the response r, the target stored its log and recorded the sequence s. If the
--- request q is `tell`, which prints a message, the statement `before` about the earlier exchanges must be true instead.
+-- In the exchange of the request q and the response r, the target stored its log and recorded the sequence s. If q is
+-- the request `tell`, which only prints a message, the statement `before` about the earlier exchanges is required
+-- instead.
 abbrev pub IsStoring : RequestView → ResponseView → Text → Type 0 → Type 0
 IsStoring (put_log Target log checkpoint) stored_response s before = checkpoint.seq ≡ s
 IsStoring (tell notice) r s before = before
 IsStoring q r s before = ⊥
 
--- In the last exchange whose request is not `tell`, the target stored its log with the recorded sequence s. The request
--- `tell` prints a message.
+-- In the last exchange that does not just print a message (`tell`), the target stored its log with the recorded
+-- sequence s.
 abbrev pub IsStored : List Exchange → Text → Type 0
 IsStored [] s = ⊥
 IsStored (e ∷ h) s = IsStoring e.request e.response s (IsStored h s)

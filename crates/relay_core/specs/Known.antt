@@ -48,9 +48,9 @@ asked_of phase = option_map_or (λ n. tell (notice_view n)) (slice_get phase.not
 
 -- ---- what is known
 
--- The relay has processed the pages of changes from sequence `begin` to sequence `since`. Of the leaves of the
--- processed pages, the target refused and lacks `rejected` leaves. The count `failures` is at least `rejected`, or at
--- least 2^64 - 1.
+-- The relay has processed the pages of changes from sequence `begin` to sequence `since`. During the transfers of the
+-- processed pages, the target refused `rejected` leaves, and no response showed that the target has them. The count
+-- `failures` is at least the smaller of `rejected` and 2^64 - 1.
 pub record IsReachedFrom (h : List Exchange) (begin since : Text) (failures : ℕ) : Type 0 where
   pub rejected : ℕ
   pub reached : Reached begin h since rejected

@@ -43,8 +43,8 @@ pub data FaultView : Type 0 where
   refused : Text → Side → ℕ → Text → FaultView
   -- The fault of a run whose target lacks leaves that the target has not refused: the id and revision of the first such
   -- leaf, and the number of such leaves. The optional pair in the fault `unaccounted` is the error and the reason of a
-  -- response row. The response row of the fault `unaccounted` is the first row about the leaf's document with an error
-  -- other than `forbidden` and `unauthorized`.
+  -- response row. The error and the reason are from the first response row that is about the leaf's document and has an
+  -- error other than `forbidden` and `unauthorized`.
   unaccounted : Text → Text → Option (Text × Text) → ℕ → FaultView
   log_changed : FaultView
 

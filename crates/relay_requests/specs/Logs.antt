@@ -52,13 +52,15 @@ is_of_session session r = bytes_eq r.0 session
 abbrev pub is_recorded : Text → Text → Recorded → Bool
 is_recorded session seq r = bytes_eq r.0 session && bytes_eq r.1 seq
 
--- Whether a log keeps entry e of its history, if the log already keeps the newer entries `kept`. A history keeps at
--- most 50 entries, and at most two entries of a session. The kept entries of one session have different sequences.
+-- Whether a log keeps the entry e of its history. The list `kept` has the entries that the log keeps and that are newer
+-- than e. A history keeps at most 50 entries, and at most two entries of a session. The kept entries of one session
+-- have different sequences.
 abbrev pub may_keep : List Recorded → EntryView → Bool
 may_keep kept e =
     nat_lt (length kept) 50 && nat_lt (count_by (is_of_session e.session) kept) 2 && not (list_any (is_recorded e.session e.seq) kept)
 
--- The entries of a log's history that are kept, newest first. The list `kept` has the newer entries that the log keeps.
+-- The entries of a log's history that are kept, newest first. The list `kept` has entries that the log keeps and that
+-- are newer than the given history.
 abbrev pub thinned : List Recorded → List EntryView → List EntryView
 thinned kept [] = []
 thinned kept (e ∷ es) = if may_keep kept e then e ∷ thinned (kept ++ recorded_of e ∷ []) es else thinned kept es

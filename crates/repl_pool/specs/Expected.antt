@@ -9,9 +9,10 @@ use Rattle.pool_workers.specs.declared.fault.PoolFault.{PoolFault}
 use Rattle.pool_workers.specs.declared.fault.PoolFault.TheVariants as faults
 use Rattle.repl_pool.specs.Early.{early_answer}
 
--- The errors that a run between consistent peers may return. The possible errors are an early error of the plan (a
--- failed check before the run), `SessionExists`, `Unfinished`, an error of a worker's call (`IsStepFault`), or a late
--- error (`IsLateOn`).
+-- The errors that a run between consistent peers may return. The run returns an error of the plan only if a check
+-- before the run gives this error (`early_answer`). The run returns `SessionExists` only if the target already has the
+-- plan's session. Any other error is `Unfinished`, an error of a worker's call (`IsStepFault`), or an error that
+-- `IsLateOn` allows.
 abbrev pub IsExpectedRun : Type 0 → (Place → Type 0) → PeerValue → PeerValue → Plan → PoolFault → Type 0
 IsExpectedRun may_fill may_stop source target plan faults.NoWorkers =
     early_answer source target plan ≡ Err faults.NoWorkers

@@ -8,13 +8,13 @@ use Rattle.repl_target.specs.declared.replication.Plan.{Plan}
 use Rattle.repl_target.specs.replication.Replication.{start_between, next_window}
 
 -- The list has consecutive windows of the source's feed, and the first window begins at sequence `since`. The plan
--- determines each window.
+-- gives each window's maximum number of rows, and the selection of documents.
 abbrev pub ArePages : DatabaseValue → Plan → ℕ → List WindowValue → Type 0
 ArePages source plan since [] = Unit {0}
 ArePages source plan since (w ∷ windows) =
     (since < source.update_seq) × (w ≡ next_window source plan since) × ArePages source plan w.hi windows
 
--- A plan's optional limit `stop_after` allows n windows: n is at most this limit, if the plan has a limit.
+-- If a plan limits the number of windows (`stop_after`), n is at most this limit.
 abbrev pub AreAllowed : Option ℕ → ℕ → Type 0
 AreAllowed None n = Unit {0}
 AreAllowed (Some stop_after) n = n ≤ stop_after

@@ -56,10 +56,10 @@ pub data IsRecorded (plan : Plan) (fault : Option PoolFault) (complete : Bool) (
   refused : {why : TargetFault} → fault ≡ None → complete ≡ true → conclude_answer before plan.session ≡ Err why
       → after ≡ closed before plan → IsRecorded plan fault complete before after (faults.Refused why)
 
--- The first argument of `UnlessMemory` is a run's outcome before the run stores the session's entry at the source. The
--- second argument is the run's outcome after the attempt to store the entry. If the run's outcome was a success before
--- the run stored the session's entry, the outcome afterwards is the same success or `Memory`. If the run's outcome was
--- an error before the run stored the session's entry, the outcome afterwards is the same error.
+-- The first argument of `UnlessMemory` is a run's outcome before the source stores the session's log entry. The second
+-- argument is the run's final outcome, after the source has stored the entry or failed to store it. If the first
+-- outcome is a success, the final outcome is the same success, or the error `Memory`. If the first outcome is an error,
+-- the final outcome is the same error.
 abbrev pub UnlessMemory : Result Report PoolFault → Result Report PoolFault → Type 0
 UnlessMemory (Ok report) result = (result ≡ Ok report) ⊎ (result ≡ Err faults.Memory)
 UnlessMemory (Err why) result = result ≡ Err why
@@ -74,7 +74,7 @@ pub record PutsEntry (source target source' : PeerValue) (plan : Plan) (outcome 
     pub puts : PutsOver source (rep_between source target plan.chosen) entry put source'
     pub done : IfOk outcome (λ _. put ≡ Ok tt)
 
--- How the end of a replication by the pool changes both peers. When a run ends, the target either concludes the run's
+-- How the last steps of a run of the pool change both peers. When a run ends, the target either concludes the run's
 -- session (`IsConcluded`) or only records the session's low water (`IsRecorded`). The source then stores the log entry
 -- of the run's session (`PutsEntry`).
 pub data ClosesRun (plan : Plan) (fault : Option PoolFault) (complete : Bool)
@@ -88,11 +88,11 @@ pub data ClosesRun (plan : Plan) (fault : Option PoolFault) (complete : Bool)
       → PutsEntry source after source' plan (Err why)
       → ClosesRun plan fault complete source before source' after (Err why)
 
--- How the end of a replication by the pool changes both peers, and what the replication's workers have done before.
--- Only calls for the run's session have changed the target from the state `given` to the state `before`. The windows of
--- the run's session are pages of the source's feed. A worker stopped early only if a call of the worker failed, or if
--- the caller's `Gate` may stop workers at the worker's stage. If no worker stopped and all sent parcels were received,
--- the session has read as many documents as the fetchers counted.
+-- What the workers of a run of the pool have done, and how the last steps of the run then change both peers. Only calls
+-- for the run's session have changed the target from the state `given` to the state `before`. The windows of the run's
+-- session are pages of the source's feed. If a worker stopped early, the run fails with an error that `IsHaltOn`
+-- allows. If no worker stopped and all sent parcels were received, the session's number of read documents is the sum of
+-- the fetchers' counts.
 pub record EndsRun {F : Type 0} (refuses : F → Document → Bool) (may_fill : Type 0) (may_stop : Place → Type 0)
     (plan : Plan) (source : PeerValue) (given : F × PeerValue) (counts : List ℕ) (source' after : PeerValue)
     (outcome : Result Report PoolFault) : Type 0 where
@@ -138,8 +138,8 @@ TellsLowWater target run (faults.Refused (refusals.Unfinished n)) =
     (s : SessionValue) × (session_in target.sessions run ≡ Some s) × (n ≡ low_water s.front) × (n ≡ s.recorded)
 TellsLowWater target run fault = Unit {0}
 
--- The session of a run has begun, the session's windows are pages of the source's feed, and the source stores the
--- session's entry as `PutsEntry` says.
+-- The session of a run has begun, and the session's windows are pages of the source's feed. The source stores the
+-- session's log entry, with the exceptions that `PutsEntry` names.
 pub record IsBegun (source target source' target' : PeerValue) (plan : Plan) (outcome : Result Report PoolFault) : Type 0
   where
     pub begun : begins_answer source target plan ≡ Ok tt
@@ -148,7 +148,7 @@ pub record IsBegun (source target source' target' : PeerValue) (plan : Plan) (ou
     pub unfinished : IfErr outcome (TellsLowWater target' plan.session)
 
 -- The effect of a run on the source and the target. If the run's session has not begun, both peers are unchanged. If
--- the session has begun, the source stores the session's entry as `PutsEntry` says.
+-- the session has begun, the source stores the session's log entry, with the exceptions that `PutsEntry` names.
 abbrev pub LeavesOrPuts : {F : Type 0} → Plan → F × PeerValue → F × PeerValue → F × PeerValue → F × PeerValue
     → Result Report PoolFault → Type 0
 LeavesOrPuts plan source target source' target' outcome =
@@ -166,19 +166,20 @@ pub record EndsWell (source target target' : PeerValue) (plan : Plan) (n : ℕ) 
   pub copied : IsEmpty target → report.counts.failures ≡ 0 → SameDocuments plan.chosen source.db target'.db
   pub sum : n ≡ report.counts.read
 
--- The filter is unchanged. If the peer has changed, the plan's session has begun at the peer, and afterwards only calls
--- for this session (`IsGrown`) have changed the peer.
+-- The filter is unchanged. If the target has changed, the first change began the plan's session, and only calls for
+-- this session (`IsGrown`) changed the target afterwards.
 abbrev pub LeftPeer : {F : Type 0} → (F → Document → Bool) → PeerValue → F × PeerValue → Plan → F × PeerValue → Type 0
 LeftPeer refuses source given plan now = (now.0 ≡ given.0) × IsLeft (refuses given.0) source given.1 plan now.1
 
 -- The guarantees about the result of a run of the pool and about the two peers that the run returns. The run may return
--- `BoardFull` only if the statement `may_fill` is true.
+-- `BoardFull`, the error of a full counter on the progress board, only if the statement `may_fill` is true.
 pub record RunsOn {F : Type 0} (refuses : F → Document → Bool) (may_fill : Type 0) (may_stop : Place → Type 0)
     (plan : Plan) (source target source' target' : F × PeerValue) (fetched : List ℕ) (outcome : Result Report PoolFault)
     : Type 0 where
-  -- A run returns each of the four errors of a plan exactly if the error's condition is true. A run with a valid plan
-  -- never returns `Hole`. A run with a valid plan returns `Halted` only for a stage at which the caller's `Gate` may
-  -- stop a worker. A run with a valid plan returns `BoardFull` only if `may_fill` is true.
+  -- If the plan fails a check, the run returns the error of the first failed check. If the plan is valid, the run
+  -- returns no error of the plan. A run with a valid plan never returns `Hole`, the error about a leaf that the target
+  -- does not cover. A run with a valid plan returns `Halted` only if the caller's `Gate` may stop a worker at the stage
+  -- that the error names. A run with a valid plan returns `BoardFull` only if `may_fill` is true.
   pub early : EarlyOrLate may_fill may_stop (early_answer source.1 target.1 plan) source target source' target' fetched
       outcome
   -- At the source, a run changes only the outgoing logs.
@@ -199,8 +200,8 @@ pub record RunsOn {F : Type 0} (refuses : F → Document → Bool) (may_fill : T
   pub audited : (chosen : Choice) → IsTiedPair source.1 target.1 chosen
       → audit_answer source'.1 target'.1 chosen ≡ None
   -- If a run's session has not begun, both peers are unchanged and the error gives the reason. If a run's session has
-  -- begun, the session's windows are pages of the source's feed, and the source stores the session's entry as
-  -- `PutsEntry` says.
+  -- begun, the session's windows are pages of the source's feed. The source then stores the session's log entry, with
+  -- the exceptions that `PutsEntry` names.
   pub put : LeavesOrPuts plan source target source' target' outcome
   -- If the peers of a run were consistent, the error of the run is one that `IsExpectedRun` lists.
   pub expected : IfErr outcome

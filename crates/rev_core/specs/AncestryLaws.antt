@@ -18,8 +18,8 @@ pub each-push : (xs : List RevId) (r : RevId) → AllByRecursion IsRev xs → Is
 each-push [] r h k = (k, tt)
 each-push (x ∷ xs) r h k = (h.0, each-push xs r h.1 k)
 
--- After dropping the first i revisions of an ancestry, the first edge leads from the ancestry's revision at index i to
--- the next revision.
+-- If the first i revisions of an ancestry are dropped, the first remaining edge is from the ancestry's revision at
+-- index i to the revision at index i + 1.
 pub edges_at : (xs : List RevId) (i : ℕ) (d : RevId) → i + 1 < length xs → edges_of (drop i xs) ≡ (get_or xs i d, get_or xs (i + 1) d) ∷ edges_of (drop (i + 1) xs)
 edges_at xs i d h = ap edges_of (drop_more xs i d (omega arith) ∙ ap (λ t. get_or xs i d ∷ t) (drop_more xs (i + 1) d h)) ∙ ap (λ t. (get_or xs i d, get_or xs (i + 1) d) ∷ edges_of t) (sym (drop_more xs (i + 1) d h))
 

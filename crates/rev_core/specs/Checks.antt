@@ -1,7 +1,8 @@
 -- Defines sequences of checks. Each check passes a value on to the next check, or gives an error.
 use Rattle.std.specs.Prelude.{Bool, true, false, ⊤, Option, Some, None, Result, Ok, Err}
 
--- The result of applying the check f to the previous check's value, or the error of the previous check.
+-- Like Rust's `Result::and_then`: the check f is applied to the value of the previous check. If the previous check
+-- failed, its error is the result.
 infixl 10 ◌>>=◌
 abbrev pub ◌>>=◌ : {A B E : Type 0} → Result A E → (A → Result B E) → Result B E
 Ok x >>= f = f x

@@ -47,8 +47,7 @@ same_tests true y f g = sym (f refl)
 same_tests false true f g = g refl
 same_tests false false f g = refl
 
--- Comparing the generations and the signatures of two revisions by `==` gives the same result as comparing the
--- revisions by `rev_cmp`.
+-- Two revisions have equal generations and equal signatures exactly if `rev_cmp` compares the revisions as equal.
 pub rev_eq_is : (a b : RevId)
     → (nat_eq a.generation b.generation && pointwise nat_eq a.sig b.sig) ≡ eq_by_cmp rev_cmp a b
 rev_eq_is a b = same_tests _ _

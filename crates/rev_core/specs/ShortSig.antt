@@ -24,8 +24,8 @@ is_short text = if length text == 32 then list_all is_hex_digit text else nat_le
 unfoldable pub bytes_in : ℕ → ℕ → List ℕ
 bytes_in front back = to_le_bytes w64 front ++ to_le_bytes w64 back
 
--- The signature that the integers `front` and `back` encode. The two integers together have 16 bytes (`bytes_in`). If
--- `len` is 0, the signature is the 32 hexadecimal digits of the 16 bytes of `front` and `back`. If `len` is not 0, the
--- signature is the first `len` bytes of `front` and `back`, which together have 16 bytes.
+-- The signature that the 16 bytes of the integers `front` and `back` encode (`bytes_in`). If `len` is 0, the signature
+-- is the 32 hexadecimal digits of the 16 bytes of `front` and `back`. If `len` is not 0, the signature is the first
+-- `len` of the 16 bytes of `front` and `back`.
 abbrev pub text_in : ℕ → ℕ → ℕ → List ℕ
 text_in len front back = if len == 0 then digits_of (bytes_in front back) else take len (bytes_in front back)

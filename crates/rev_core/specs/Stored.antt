@@ -1,4 +1,4 @@
--- Lemma: the array and the length that store a signature are determined by the signature's string.
+-- Lemma: a signature's string determines the array and the length that store the signature.
 use Rattle.std.specs.Prelude.{◌≡◌, take, length}
 use Rattle.std.proofs.Common.{arith, sym}
 use Rattle.std.proofs.lemmas.List.{length-take-le}

@@ -119,8 +119,8 @@ module _ (a b b' a' : TreeValue) (there : IsGrownBy b a b') (back : IsGrownBy a 
 
 -- ---- the same
 
--- Trees s and t agree, and t has complete histories. If tree s stores a parent of a revision that is in tree t, tree t
--- stores the same parent.
+-- Trees s and t agree, and t has complete histories. If tree s stores a revision's parent, and tree t has the revision,
+-- then t stores the same parent.
 module _ (s t : TreeValue) (ours : IsTree s) (theirs : IsTree t) (agree : Agree s t) (whole : IsWhole t) where
   same_parent : (c p : RevId) → has t c ≡ true → get s.parents c ≡ Some p → get t.parents c ≡ Some p
   same_parent c p there e = go (get t.parents c) refl
@@ -198,8 +198,8 @@ same_order R S r s (k ∷ xs) h =
     ∙ same_placed R S r k (in_order R xs) (λ y m. h k y (ap (λ b. b || list_any (eq_by_cmp R k) xs) ((eq_by_cmp_equiv r).refl k)) (or_right _ _ (sym (any-in_order r xs y) ∙ m)))
     ∙ ap (placed S k) (same_order R S r s xs (λ a b m n. h a b (or_right _ _ m) (or_right _ _ n))) ∙ sym (in_order-cons s k xs)
 
--- Revision r is in the unsorted list of the leaves of tree t exactly if r is a leaf of t. A search for r in the list of
--- t's leaves may use the leaf order of any tree u. Only identical revisions compare as equal in a leaf order.
+-- Revision r is in the unsorted list of the leaves of tree t exactly if r is a leaf of t. A list of leaves can be
+-- searched for r with the leaf order of any tree u. In every leaf order, only identical revisions compare as equal.
 any_leaf : (u t : TreeValue) (r : RevId) → list_any (eq_by_cmp (leaf_cmp u) r) (filter (is_leaf t) (keys t.origins)) ≡ is_leaf t r
 any_leaf u t r =
     let all = filter (is_leaf t) (keys t.origins) in

@@ -23,15 +23,15 @@ abbrev pub noted_from : List (ℕ × ℕ) → ℕ → List RevId → List (ℕ �
 noted_from entries i [] = entries
 noted_from entries i (r ∷ revs) = noted_from (noted entries (mark_of r) i) (i + 1) revs
 
--- Whether in a list, the generation of each revision is one less than the generation of the revision before it, as in
--- an ancestry.
+-- Whether the generations fall by one from each revision of a list to the next revision, as in an ancestry.
 abbrev pub falls : List RevId → Bool
 falls [] = true
 falls (r ∷ []) = true
 falls (r ∷ (s ∷ revs)) = nat_eq r.generation (s.generation + 1) && falls (s ∷ revs)
 
 -- The index of a tree whose nodes have the revisions `revs`: a map from the revisions' hashes to the nodes' positions.
--- The index of a tree's nodes is empty if the nodes are few enough to be scanned. If the generations in `revs` fall by
--- one from each revision to the next, the tree's index is empty, because a node's generation determines its position.
+-- The index of a tree's nodes is empty if the nodes are few enough to be scanned. If the generations fall by one from
+-- each revision in `revs` to the next, the index is empty, too. The generation of a node's revision then determines the
+-- node's position.
 abbrev pub index_for : List RevId → List (ℕ × ℕ)
 index_for revs = if nat_lt MOST_WALKED (length revs) && not (falls revs) then noted_from [] 0 revs else []

@@ -48,8 +48,8 @@ pub walk_begins : (m : FinMap rev_cmp RevId) (n : ℕ) (p : RevId) → (rest : L
 walk_begins m zero p = ([], refl)
 walk_begins m (suc n) p = (option_map_or (walk m n) (get m p) [], refl)
 
--- For each revision that a traversal of tree s visits, the edges between the visited revisions give the same parent as
--- tree s.
+-- If a traversal of tree s visits a revision, the edges between the visited revisions give this revision the same
+-- parent as tree s.
 pub edges_walked : (s : TreeValue) → IsTree s → (n : ℕ) (x c : RevId) → has s x ≡ true → x.generation ≤ n → is_among c (walk s.parents n x) ≡ true → find rev_cmp c (edges_of (walk s.parents n x)) ≡ get s.parents c
 edges_walked s tree zero x c known low h = let low' = (tree.revs x known).low in absurd (omega arith)
 edges_walked s tree (suc n) x c known low h = go (λ p there under among. edges_walked s tree n p c there under among) (get s.parents x) refl
@@ -73,7 +73,7 @@ edges_walked s tree (suc n) x c known low h = go (λ p there under among. edges_
           | false ↦ λ _ later. further p (tree.parent x p e) (omega (arith, falls, low)) later
         ] refl among)
 
--- If a traversal does not visit a revision, this revision is not the child in any edge between the visited revisions.
+-- If a traversal does not visit a revision, no edge between the visited revisions has this revision as its child.
 edges_apart : (s : TreeValue) → IsTree s → (x c : RevId) → has s x ≡ true → is_among c (ancestors s x) ≡ false → find rev_cmp c (edges_of (ancestors s x)) ≡ None
 edges_apart s tree x c known apart =
     none_is (find rev_cmp c (edges_of (ancestors s x))) (λ p e. false≢true (sym apart ∙ (edge_found (ancestors s x) c p (IsAncestry-ancestors s tree x known).falls e).child))
@@ -116,7 +116,8 @@ given_is s leaf b h = λ i. record {
   body = option_map_or (λ (x : ContentValue). x.body) (h i) [];
 }
 
--- Merging the ancestry of a leaf of tree s adds a content only for the leaf: the content that replication sends for it.
+-- If the ancestry of a leaf of tree s is merged into a tree, the only content to add is the content that replication
+-- sends for the leaf.
 pub at_leaf : (s : TreeValue) (leaf q : RevId) → is_some (find rev_cmp q (at_head (ancestors s leaf) (given s leaf))) ≡ true → (q ≡ leaf) × (find rev_cmp q (at_head (ancestors s leaf) (given s leaf)) ≡ Some (given s leaf))
 at_leaf s leaf q h =
     let begins = walk_begins s.parents leaf.generation leaf in
@@ -222,7 +223,8 @@ module _ (s t : TreeValue) (tree : IsTree s) (part : IsPart s t) (leaf : RevId) 
 
 -- ---- the complete tree
 
--- If a part t of tree s has a revision x, then t also has each ancestor that a traversal of s from x visits.
+-- If tree t is a part of tree s and has the revision x, then t also has each revision that a traversal of s from x
+-- visits.
 part_walked : (s t : TreeValue) → IsPart s t → (n : ℕ) (x r : RevId) → has t x ≡ true → is_among r (walk s.parents n x) ≡ true → has t r ≡ true
 part_walked s t part zero x r there h = elim (or_cases _ _ h) [ inl tie ↦ ap (has t) (rev_tie_is r x tie) ∙ there | inr nothing ↦ absurd (false≢true nothing) ]
 part_walked s t part (suc n) x r there h =

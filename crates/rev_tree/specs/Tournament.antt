@@ -29,8 +29,8 @@ IsBefore x None = Unit {0}
 IsBefore None (Some b) = ⊥
 IsBefore (Some a) (Some b) = is_lt (key_cmp b a) ≡ false
 
--- The key of the node that a stored number names. A stored number is the node's index plus 1. For the stored number 0,
--- the key is `None`.
+-- The key of the node that a stored number names. A stored number is the node's index plus 1. If the stored number is
+-- 0, there is no node, and the key is `None`.
 abbrev pub entry : List NodeValue → ℕ → Option Key
 entry nodes zero = None
 entry nodes (suc p) = option_map key_of (slice_get nodes p)
@@ -40,16 +40,17 @@ abbrev pub leaf_key : Option NodeValue → Option Key
 leaf_key None = None
 leaf_key (Some n) = cond n.has_child None (Some (key_of n))
 
--- The key of the leaf at index k of the comparison tree, or `None` if this index has no leaf. The parameters of `under`
--- are the nodes, the stored winners of comparisons, the number `entered` and the index k. The number `entered` counts
--- the nodes in the comparison tree.
+-- The key of the leaf at index k of the comparison tree, or `None` if this index has no leaf. The list `nodes` has the
+-- nodes of the revision tree, and `winners` has the stored winners of comparisons. The number of nodes in the
+-- comparison tree is `entered`.
 abbrev pub under : List NodeValue → List ℕ → ℕ → ℕ → Option Key
 under nodes winners entered k =
     cond (nat_lt k (length winners)) (entry nodes (get_or winners k 0))
     (cond (nat_lt (k - length winners) entered) (leaf_key (slice_get nodes (k - length winners))) None)
 
--- Each stored winner of a comparison is a node that was entered into the comparison tree, and has a content. Each leaf
--- that was entered into the comparison tree has a content. The key of a node that has a content never changes.
+-- Each stored winner of a comparison has a content, and is one of the nodes that were entered into the comparison tree.
+-- Each leaf that was entered into the comparison tree has a content. The key of a node that has a content never
+-- changes.
 pub record IsHeld (nodes : List NodeValue) (winners : List ℕ) (entered : ℕ) : Type 0 where
   pub within : entered ≤ length nodes
   pub fits : entered ≤ length winners
@@ -57,8 +58,8 @@ pub record IsHeld (nodes : List NodeValue) (winners : List ℕ) (entered : ℕ) 
   pub contents : (i p : ℕ) (n : NodeValue) → get_or winners i 0 ≡ suc p → slice_get nodes p ≡ Some n → is_some n.content ≡ true
   pub leaves : (j : ℕ) (n : NodeValue) → j < entered → slice_get nodes j ≡ Some n → n.has_child ≡ false → is_some n.content ≡ true
 
--- The stored winner of a comparison does not lose to either of the comparison's two leaves. This may be false of the
--- comparison with index x.
+-- The stored winner of a comparison does not lose to either of the comparison's two leaves. Only the comparison with
+-- index x may have a stored winner that loses to one of the two leaves.
 pub record IsPlayed (nodes : List NodeValue) (winners : List ℕ) (entered x : ℕ) : Type 0 where
   pub held : IsHeld nodes winners entered
   pub ordered : (k : ℕ) → 2 ≤ k → k / 2 < length winners → (k / 2 ≡ x → ⊥) → IsBefore (entry nodes (get_or winners (k / 2) 0)) (under nodes winners entered k)
@@ -69,7 +70,7 @@ pub record IsEntry (nodes : List NodeValue) (winners : List ℕ) (entered k w : 
   pub within : w ≤ entered
   pub content : (p : ℕ) (n : NodeValue) → w ≡ suc p → slice_get nodes p ≡ Some n → is_some n.content ≡ true
 
--- Two leaves have the stored forms `one` and `other`, and w is the stored form of the leaf that wins.
+-- The stored numbers `one` and `other` represent two leaves, and w is the stored number of the leaf that wins.
 pub record IsWinnerOf (nodes : List NodeValue) (one other w : ℕ) : Type 0 where
   pub either : (w ≡ one) ⊎ (w ≡ other)
   pub first : IsBefore (entry nodes w) (entry nodes one)

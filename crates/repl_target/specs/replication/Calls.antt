@@ -28,15 +28,16 @@ settled_of refuses p parcel (Ok at) = settled_before refuses at.1 (settling_of p
 abbrev pub most_settled : (Document → Bool) → PeerValue → SessionId → ParcelValue → ℕ
 most_settled refuses p session parcel = settled_of refuses p parcel (settle_check p session parcel)
 
--- The target's state if an allocation fails during the settling of a parcel. Without a failed allocation, `settle`
--- settles `most_settled` documents. With a failed allocation, the number of settled documents is the lesser of n and
--- `most_settled`.
+-- The state of the target p after an allocation fails while `settle` settles a parcel. If no allocation fails, `settle`
+-- settles `most_settled` documents. If an allocation fails, `settle` settles n documents, or `most_settled` documents
+-- if n is greater.
 abbrev pub after_some : (Document → Bool) → PeerValue → SessionId → ParcelValue → ℕ → PeerValue
 after_some refuses p session parcel n =
     after_stop refuses p session parcel (min n (most_settled refuses p session parcel))
 
--- A call that may change a target: a local write, or a step of a replication. `Stop` is a call of `settle` that fails
--- because an allocation fails. The number `settled` limits the documents that the call processes before it fails.
+-- A call that may change a target: a local write, or a step of a replication. The variant `Stop` is a call of `settle`
+-- in which an allocation fails. The number `settled` is the maximum number of documents that this call settles before
+-- it fails.
 pub data Call : Type 0 where
   Load : (doc : Document) → Call
   Edit : (id : Id) (parent : Option RevId) (deleted : Bool) (body : List ℕ) → Call
@@ -74,8 +75,8 @@ pub record IsPageOf (db : DatabaseValue) (chosen : Choice) (w : WindowValue) : T
   pub is : w ≡ page db since goal limit chosen
 
 -- A call that a replication makes on the target for the session `run`, which has begun. The call begins no session and
--- makes no local write. A call that appends a window appends a page of the source's selected feed. A call that settles
--- a parcel settles a parcel that the source returned.
+-- makes no local write. If the call appends a window, the window is a page of the source's selected feed. If the call
+-- settles a parcel, the source has returned this parcel.
 abbrev pub IsFrom : DatabaseValue → Choice → SessionId → Call → Type 0
 IsFrom source chosen run (Append session window) = (session ≡ run) × IsPageOf source chosen window
 IsFrom source chosen run (Settle session parcel) = (session ≡ run) × (parcel ≡ open_revs source parcel.asked)
@@ -101,7 +102,7 @@ IsLeft refuses source given plan now =
     ⊎ (begins_answer source given plan ≡ Ok tt)
     × IsGrown refuses source.db plan.chosen plan.session (after_begins source given plan) now
 
--- Each window of a session has the property P if the session's id and replication have the property Q.
+-- If the id and the replication of a session have the property Q, each window of the session has the property P.
 abbrev pub EachStored : (SessionId → RepId → Type 0) → (WindowValue → Type 0) → List SessionValue → Type 0
 EachStored Q P sessions =
     (s : SessionValue) → Among s sessions → Q s.id s.rep → (w : WindowValue) → Among w s.windows → P w

@@ -14,12 +14,13 @@ use Rattle.repl_target.specs.declared.replication.Plan.{Plan}
 use Rattle.repl_target.specs.ties.Ties.{IsTiedWith, IsSentEntry, KeepsOthersTied}
 use Rattle.repl_target.specs.replication.Calls.{IsLeft}
 
--- For each document, the tree in database `now` is the tree in database `old`, grown by data from the tree in database
--- `other` (`IsGrownBy`).
+-- Each document's tree in database `now` has grown from the document's tree in database `old`. All added data is from
+-- the document's tree in database `other` (`IsGrownBy`).
 abbrev pub HasGrownBy : DatabaseValue → DatabaseValue → DatabaseValue → Type 0
 HasGrownBy old other now = (id : Id) → IsGrownBy (tree_of old.docs id) (tree_of other.docs id) (tree_of now.docs id)
 
--- After a replication, the source is unchanged, or the source's log has an entry of a session of the target.
+-- A replication leaves the source unchanged, or puts an entry into the source's log. The entry names a session of the
+-- target.
 abbrev pub IsPut : PeerValue → PeerValue → Choice → PeerValue → Type 0
 IsPut source target chosen source' =
     (source' ≡ source)

@@ -78,7 +78,8 @@ after_begins source target plan = after_begin target plan.session (beginning_bet
 
 -- ---- windows
 
--- The state of a replication between two windows: the sequence up to which the source's feed was read, and the target.
+-- The state of a replication before the next window: the sequence up to which the replication has read the source's
+-- feed, and the target.
 pub record Reading : Type 0 where
   pub since : ℕ
   pub target : PeerValue
@@ -92,8 +93,8 @@ next_window source plan since = page source since source.update_seq plan.batch p
 abbrev pub parcel_for : DatabaseValue → PeerValue → WindowValue → ParcelValue
 parcel_for source p w = open_revs source (revs_diff p.db w)
 
--- Target p appends window w to the plan's session, and then settles `parcel` with the result `result`, which changes
--- the target to q.
+-- The target p appends the window w to the plan's session, and then settles the parcel `parcel`. Settling returns
+-- `result`, and leaves the target in the state q.
 abbrev pub StoresAndSettles : (Document → Bool) → Plan → PeerValue → WindowValue → ParcelValue
     → Result Settled TargetFault → PeerValue → Type 0
 StoresAndSettles refuses plan p w parcel result q =
@@ -151,8 +152,8 @@ ReadsUntil refuses source plan from why target' =
 
 -- ---- the end
 
--- The state of the target p after a call of `conclude` for the plan's session. If `conclude` fails, it is followed by a
--- call of `record`.
+-- The state of the target p after a call of `conclude` for the plan's session. If the call of `conclude` fails, a call
+-- of `record` follows, and the state is the one after both calls.
 abbrev pub closed_as : PeerValue → Plan → Result Report TargetFault → PeerValue
 closed_as p plan (Ok report) = after_conclude p plan.session plan.at
 closed_as p plan (Err fault) = after_record (after_conclude p plan.session plan.at) plan.session plan.at

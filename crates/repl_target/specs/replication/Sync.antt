@@ -57,8 +57,9 @@ pub record Meets (a b a' b' : DatabaseValue) (id : Id) : Type 0 where
   pub whole : IsWhole (tree_of a.docs id) → IsWhole (tree_of b.docs id)
       → IsWhole (tree_of a'.docs id) × IsWhole (tree_of b'.docs id)
 
--- If peers a and b were consistent in both directions (`IsTiedPair`), replications change each shared document as
--- `Meets` says. A document is shared if both plans select the document, and neither peer has ever refused the document.
+-- If peers a and b were consistent in both directions (`IsTiedPair`), each shared document satisfies `Meets` after the
+-- replications in both directions. A document is shared if both plans select the document, and neither peer has ever
+-- refused the document.
 abbrev pub MeetBoth : PeerValue → PeerValue → PeerValue → PeerValue → Plan → Plan → Type 0
 MeetBoth a b a' b' there back =
     IsTiedPair a b there.chosen → IsTiedPair b a back.chosen → (id : Id) → HasRefusedNone a' id → HasRefusedNone b' id
