@@ -207,11 +207,7 @@ fn pad(count: usize, made: &mut Vec<Option<PreparedTree>>) -> Result<(), AllocEr
 }
 
 /// Builds the tree that a document would have if it were new at the target, unless the tree is there already.
-fn make_if_none(
-    alloc: Global,
-    doc: &Doc,
-    made: &mut Option<PreparedTree>,
-) -> Result<(), AllocError>
+fn make_if_none(alloc: Global, doc: &Doc, made: &mut Option<PreparedTree>) -> Result<(), AllocError>
     requires { IfSome made.old (IsMadeOf doc.now) }
     ensures { IfSome made.new (IsMadeOf doc.now) }
 {

@@ -1,7 +1,7 @@
 -- The leaves among the nodes: counted, sorted, and the first.
 use Rattle.proof_prelude.proofs.{◌≡◌, ℕ, zero, suc, ◌+◌, ◌<◌, ◌≤◌, ◌&&◌, ◌++◌, ◌∷◌, [], List, Bool, true, false, cond, not, length, take, drop, get_or, filter, sym, ap, ◌∙◌, subst, Option, Some, None, is_some, refl, arith, add-one, false≢true, or_parts, list_any, list_any-IsPermutation, length_permutation, eq_by_cmp, is_lt, is_eq, bool_cmp, ordering_reverse, ordering_then, IsTotalOrder, keys, contains_key-keys, IsAntisymmetric, by_order, take_more, map-append, filter-append, option_map, option_map_or, option_to_list, same_Some, IsSortedBy, IsPermutation, Ordering, Less, Equal, Greater, take_all, take-append-drop, append-nil, length-append}
 use Rattle.rev_core.specs.{RevId, rev_cmp}
-use Rattle.rev_tree.specs.{in_order, placed, first_of, first_of-placed, better, only_of, same_in_order, in_order-push, in_order-cons, in_order-nil, length-placed, TreeValue, is_leaf, is_deleted, leaf_cmp, leaves, ContentValue, leaf_cmp_total, leaf_cmp_exact, leaf_tie, any_agree, any_filter, revs_in, tree_of, deletes, goes_before, Distinct, IsLinked, NodeValue}
+use Rattle.rev_tree.specs.{in_order, placed, first_of, first_of-placed, better, only_of, same_in_order, in_order-push, in_order-cons, in_order-nil, length-placed, TreeValue, is_leaf, is_deleted, leaf_cmp, leaves, ContentValue, leaf_cmp_total, leaf_cmp_exact, leaf_tie, any_agree, any_filter, revs_in, deletes, goes_before, Distinct, IsLinked, NodeValue}
 use Rattle.rev_tree.proofs.Places.{is_some-node_of, node_at, read_at}
 use Rattle.rev_tree.proofs.Lookups.{Shows, leaf_is, content_is}
 use Rattle.rev_tree.proofs.Views.{has-tree_of}

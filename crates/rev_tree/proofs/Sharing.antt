@@ -1,5 +1,5 @@
 -- A tree that shares the nodes of another.
-use Rattle.proof_prelude.proofs.{◌≡◌, ℕ, ◌+◌, ◌<◌, ◌≤◌, List, [], ◌∷◌, map, length, Option, Some, None, Bool, true, false, not, cond, is_some, sym, ap, ◌∙◌, subst, refl, false≢true, eq_by_cmp, option_map, option_or, slice_get, same_Some, get, get-empty, empty, same_map, ◌||◌, ◌&&◌, or_cases, arith, cases_lt, Bor, option_copied, inl, inr, cases_Bool}
+use Rattle.proof_prelude.proofs.{◌≡◌, ℕ, ◌+◌, ◌<◌, ◌≤◌, List, [], ◌∷◌, map, length, Option, Some, None, Bool, true, false, not, cond, is_some, sym, ap, ◌∙◌, refl, false≢true, eq_by_cmp, option_map, option_or, slice_get, same_Some, get, get-empty, empty, same_map, ◌||◌, ◌&&◌, or_cases, arith, cases_lt, Bor, option_copied, inl, inr, cases_Bool}
 use Rattle.std.specs.FinMap.{find}
 use Rattle.rev_core.specs.{RevId, rev_cmp, rev_cmp_total, rev_cmp_exact, is_among, rev_tie_is, rev_tie_self}
 use Rattle.rev_tree.specs.{ContentValue, TreeValue, IsTree, ancestors, ancestors_self, at_head, has, is_leaf, joined, leaves, merged, no_revisions, only_of, get-joined, has-merged, is_among-leaves, given, nothing_is_part, part_merged, whole_part, IsLinked, IsStored, NodeValue, Origin, OriginsValue, node_of, one, place_of, shown, tree_of}
@@ -81,10 +81,10 @@ only_leaves nodes linked scanned r some = by (node_of nodes r) refl
         let place = some_place nodes r n e in
         leaf_is nodes (tree_of nodes) r (Some n) linked (shows_itself nodes) e
         ∙ ap not (no_child n.has_child (λ child.
-          let at = (place_known nodes r place.0 place.1) in
-          let same = same_Some at.node n (sym at.found ∙ e) in
-          let none = scanned.bare place.0 n at.within (at.at ∙ ap Some same) child in
-          false≢true (ap is_some (sym none) ∙ ap is_some (sym (content_is nodes (tree_of nodes) r (Some n) linked (shows_itself nodes) e)) ∙ some)))
+        let at = (place_known nodes r place.0 place.1) in
+        let same = same_Some at.node n (sym at.found ∙ e) in
+        let none = scanned.bare place.0 n at.within (at.at ∙ ap Some same) child in
+        false≢true (ap is_some (sym none) ∙ ap is_some (sym (content_is nodes (tree_of nodes) r (Some n) linked (shows_itself nodes) e)) ∙ some)))
 
 -- ---- the only leaf of a tree
 

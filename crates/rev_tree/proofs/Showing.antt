@@ -1,9 +1,9 @@
 -- The tree that nodes and their origins represent.
-use Rattle.proof_prelude.proofs.{◌≡◌, ℕ, zero, suc, ◌+◌, ◌<◌, ◌≤◌, List, [], ◌∷◌, map, length, Option, Some, None, Bool, true, false, ◌||◌, ◌&&◌, cond, not, is_some, sym, ap, ◌∙◌, subst, refl, arith, false≢true, eq_by_cmp, option_map, option_or, slice_get, slice_get-get_or, slice_get_within, same_Some, get, from_entries, get-from_entries, same_map, len, len-insert, len-empty}
+use Rattle.proof_prelude.proofs.{◌≡◌, ℕ, zero, suc, ◌+◌, ◌<◌, ◌≤◌, List, [], ◌∷◌, map, length, Option, Some, None, true, false, ◌||◌, ◌&&◌, cond, not, is_some, sym, ap, ◌∙◌, refl, arith, false≢true, eq_by_cmp, option_map, option_or, slice_get, slice_get-get_or, slice_get_within, same_Some, get, from_entries, get-from_entries, same_map, len, len-insert, len-empty}
 use Rattle.std.specs.FinMap.{find}
-use Rattle.rev_core.specs.{RevId, rev_cmp, rev_cmp_total, rev_cmp_exact, edges_of, is_among, rev_tie_self}
-use Rattle.rev_tree.specs.{ContentValue, TreeValue, IsTree, has, is_leaf, is_parent, joined, merged, get-joined, has-merged, Distinct, IsLinked, IsOfNodes, IsStored, NodeValue, Origin, OriginsValue, labelled, leaves, no_origin, node_of, origin_at, place_of, places_from, revs_in, same_leaves, shown, tree_of}
-use Rattle.rev_tree.proofs.Places.{is_some-node_of, none_of, place_at, place_known, place_none, rev_at_place}
+use Rattle.rev_core.specs.{RevId, rev_cmp, rev_cmp_total, rev_cmp_exact, is_among, rev_tie_self}
+use Rattle.rev_tree.specs.{ContentValue, TreeValue, IsTree, has, joined, merged, get-joined, has-merged, Distinct, IsLinked, IsStored, NodeValue, Origin, OriginsValue, labelled, leaves, no_origin, origin_at, place_of, places_from, revs_in, same_leaves, shown, tree_of}
+use Rattle.rev_tree.proofs.Places.{none_of, place_at, place_known, place_none, rev_at_place}
 use Rattle.rev_tree.proofs.Lookups.{Shows, parent_shown}
 use Rattle.rev_tree.proofs.Linking.{length-revs_in}
 use Rattle.rev_tree.proofs.Views.{has-tree_of}
@@ -146,7 +146,6 @@ module _ (nodes more : List NodeValue) (os ps : OriginsValue) (revs : List RevId
     (kept : (i : ℕ) (r : RevId) → slice_get (revs_in nodes) i ≡ Some r → slice_get (revs_in more) i ≡ Some r)
     (old : (i : ℕ) → i < length nodes → origin_at ps i ≡ origin_at os i)
     (new : (i : ℕ) → length nodes ≤ i → i < length more → origin_at ps i ≡ o) where
-
   -- a revision keeps its place
   stays : (q : RevId) (i : ℕ) → place_of nodes q ≡ Some i → place_of more q ≡ Some i
   stays q i h =

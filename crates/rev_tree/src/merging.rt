@@ -141,12 +141,7 @@ impl Nodes {
 
     /// Inserts an ancestry into an empty tree. The revisions of an ancestry are distinct, so the call does not look for
     /// existing nodes.
-    fn put_first(
-        &mut self,
-        revs: &[Rev],
-        content: Content,
-        blocks: &mut Vec<Box<Sig>>,
-    )
+    fn put_first(&mut self, revs: &[Rev], content: Content, blocks: &mut Vec<Box<Sig>>)
         requires none { self.old.items ≡ [] }
         requires ancestry { IsAncestry revs.now }
         requires room { HasRoom self.old (count_new (revs_in self.old.items) revs.now) }
@@ -165,12 +160,7 @@ impl Nodes {
 
     /// Inserts an ancestry and returns the index of the head's node. Some revisions of the ancestry may already have
     /// nodes.
-    fn put_among(
-        &mut self,
-        revs: &[Rev],
-        content: Content,
-        blocks: &mut Vec<Box<Sig>>,
-    ) -> usize
+    fn put_among(&mut self, revs: &[Rev], content: Content, blocks: &mut Vec<Box<Sig>>) -> usize
         requires some { 0 < length revs.now }
         requires room { HasRoom self.old (count_new (revs_in self.old.items) revs.now) }
         requires blocks { count_blocks revs.now ≤ length blocks.old.items }
@@ -196,12 +186,7 @@ impl Nodes {
     /// Returns the index of a revision's node, after appending a node if the revision has no
     /// node. The call first checks whether the node at index `near` holds the revision. The caller has reserved the
     /// space for the node, and gives the heap block that the revision may need.
-    fn add(
-        &mut self,
-        near: Option<usize>,
-        rev: &Rev,
-        blocks: &mut Vec<Box<Sig>>,
-    ) -> usize
+    fn add(&mut self, near: Option<usize>, rev: &Rev, blocks: &mut Vec<Box<Sig>>) -> usize
         requires near { IfSome near (λ i. i < length self.old.items) }
         requires room { HasRoom self.old (unless_among (revs_in self.old.items) rev.now) }
         requires blocks { blocks_of rev.now ≤ length blocks.old.items }

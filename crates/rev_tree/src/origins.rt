@@ -115,7 +115,7 @@ impl Origins {
 
     /// Reserves space for `more` further nodes of the given origin, after `known` nodes. If the nodes then have
     /// different origins, the call lists the origin of each node.
-    pub(crate) fn reserve(
+    pub(crate) fn reserve_for(
         &mut self,
         alloc: Global,
         known: usize,

@@ -422,7 +422,7 @@ impl Tree {
         let revs = ancestry.revs();
         let known = self.nodes.all().len();
         self.origins
-            .reserve(self.nodes.alloc(), known, revs.len(), origin)?;
+            .reserve_for(self.nodes.alloc(), known, revs.len(), origin)?;
         let best = self.nodes.insert(self.best, revs, content)?;
         let count = self.nodes.all().len() - known;
         self.origins.extend(known, count, origin);

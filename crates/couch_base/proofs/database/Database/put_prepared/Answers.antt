@@ -27,8 +27,7 @@ returns-clause-put c put =
     let same = c.set_origin.ensures.origin d.ancestry (content_of d.deleted d.body) made.origin made.tree in
     let written = c.add_prepared.ensures.put put in
     let absent : found t.entries c.in-Some.prepared.key ≡ None = written.0 in
-    let room : c.args.self.now.update_seq < most = subst (λ (v : DatabaseValue). v.update_seq < most) c.self.view_is (omega (arith, c.last.ensures.seq, c.if-last-ge-MOST_SEQUENCE.false)) in
-    (
+    let room : c.args.self.now.update_seq < most = subst (λ (v : DatabaseValue). v.update_seq < most) c.self.view_is (omega (arith, c.last.ensures.seq, c.if-last-ge-MOST_SEQUENCE.false)) in (
       taken c.self.inside.uuid c.self.inside.life t c.args.self.now c.self.view_is c.last.ensures.kept d c.ancestry.ensures.document.ancestry c.in-Some.prepared.key made.key absent room,
       written.1.value c.self.inside.uuid c.self.inside.life
           ∙ ap (λ (v : DatabaseValue). with_tree v c.in-Some.prepared.key c.set_origin.new.self) c.self.view_is

@@ -1,4 +1,4 @@
-use Rattle.proof_prelude.proofs.{take, filter, Some, cond, not, slice_get, sym, ap, ◌∙◌, subst, is_some, refl, cond-true, cond-false, false≢true, option_copied}
+use Rattle.proof_prelude.proofs.{take, filter, Some, cond, not, slice_get, sym, ap, ◌∙◌, subst, is_some, cond-true, cond-false, false≢true, option_copied}
 use Rattle.rev_tree.specs.{in_order, placed, is_leaf, leaf_cmp, revs_in, tree_of}
 use Rattle.rev_tree.proofs.{shows_itself, IsBest, best_none, best_placed, best_of_all, leaf_item, deleted_item, leaves_more, read_at, rev_of_place}
 use Rattle.rev_tree.proofs.nodes.Nodes.first_leaf.Goals as goal

@@ -1,4 +1,4 @@
-use Rattle.proof_prelude.proofs.{◌≡◌, ◌<◌, Some, None, IfSome, length, slice_get, get_or, sym, ap, ◌∙◌, subst, refl, same_Some}
+use Rattle.proof_prelude.proofs.{◌≡◌, ◌<◌, Some, None, IfSome, length, slice_get, get_or, sym, ap, ◌∙◌, subst, same_Some}
 use Rattle.rev_tree.specs.{rev_at, revs_in, tree_of}
 use Rattle.rev_tree.proofs.{shows_itself, node_at, place_known, place_unknown, read_at, parent_is}
 use Rattle.rev_tree.proofs.nodes.Nodes.parent_at.Goals as goal

@@ -1,4 +1,4 @@
-use Rattle.proof_prelude.proofs.{◌++◌, ◌∷◌, [], None, refl, sym, ap, ◌∙◌, false≢true, list_any}
+use Rattle.proof_prelude.proofs.{◌++◌, ◌∷◌, [], None, sym, ap, ◌∙◌, false≢true, list_any}
 use Rattle.rev_core.specs.{is_among}
 use Rattle.rev_tree.specs.{tree_of, is_above_one}
 use Rattle.rev_tree.proofs.{shows_itself, place_known, place_unknown, has_is, item_among, kept_pass, kept_fail, place_is}

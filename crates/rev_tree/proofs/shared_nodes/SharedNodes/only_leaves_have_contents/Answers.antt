@@ -1,5 +1,4 @@
-use Rattle.proof_prelude.proofs.{sym, ap, ◌∙◌, subst, length, arith}
-use Rattle.rev_tree.specs.{is_leaf, tree_of}
+use Rattle.proof_prelude.proofs.{subst, length}
 use Rattle.rev_tree.proofs.{IsScanned, all_scanned, only_leaves}
 use Rattle.rev_tree.proofs.shared_nodes.SharedNodes.only_leaves_have_contents.Goals as goal
 

@@ -1,4 +1,4 @@
-use Rattle.proof_prelude.proofs.{sym, subst, length, ap}
+use Rattle.proof_prelude.proofs.{sym, subst, length}
 use Rattle.rev_tree.specs.{IsLed, IsLinked, IsOfNodes}
 use Rattle.rev_tree.proofs.{stored_tree}
 use Rattle.rev_tree.proofs.tree.Tree.copy.Goals as goal

@@ -1,6 +1,6 @@
 use Rattle.proof_prelude.proofs.{sym, ◌∙◌, subst, false≢true}
 use Rattle.rev_core.specs.{IsAncestry}
-use Rattle.rev_tree.specs.{IsTree, IsAncestry-ancestors}
+use Rattle.rev_tree.specs.{IsAncestry-ancestors}
 use Rattle.rev_tree.proofs.{has_is, place_is, place_unknown, shows, stored_tree}
 use Rattle.rev_tree.proofs.tree.Tree.known_ancestry.Goals as goal
 

@@ -1,6 +1,6 @@
-use Rattle.proof_prelude.proofs.{is_some, sym, ap, ◌∙◌, subst, list_all}
+use Rattle.proof_prelude.proofs.{is_some, sym, ap, ◌∙◌, list_all}
 use Rattle.rev_core.specs.{edges_of}
-use Rattle.rev_tree.specs.{IsTree, has_edge, first_contradiction, is_same, answer_of}
+use Rattle.rev_tree.specs.{has_edge, first_contradiction, is_same, answer_of}
 use Rattle.rev_tree.proofs.{answer_known, answer_missed, is_some-copied, stored_tree}
 use Rattle.rev_tree.proofs.tree.Tree.merge_answer.Goals as goal
 use Rattle.rev_tree.proofs.tree.Tree.merge_answer.Goals.{else-all-via-then-all+else-is_some, else-all-via-else-all}

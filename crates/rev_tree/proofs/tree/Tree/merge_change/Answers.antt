@@ -10,29 +10,29 @@ use Rattle.rev_tree.proofs.tree.Tree.merge_change.Goals.{After-self-1}
 stays : (nodes known : List NodeValue) (os ps : OriginsValue) (t : TreeValue) → known ≡ nodes → ((i : ℕ) → i < length known → origin_at ps i ≡ origin_at os i) → shown nodes os ≡ t → shown nodes ps ≡ t
 stays nodes known os ps t is same view = same_shown nodes os ps (λ i low. same i (subst (λ l. i < length l) (sym is) low)) ∙ view
 
-pub returns-in_err-reserve-clause-err : goal.returns-in_err-reserve-clause-err
-returns-in_err-reserve-clause-err c =
-    let same = stays c.self.inside.nodes.items _ c.self.inside.origins c.reserve.new.self c.args.self.now c.all-known.ensures.items c.reserve.ensures.at c.self.view_is in
+pub returns-in_err-reserve_for-clause-err : goal.returns-in_err-reserve_for-clause-err
+returns-in_err-reserve_for-clause-err c =
+    let same = stays c.self.inside.nodes.items _ c.self.inside.origins c.reserve_for.new.self c.args.self.now c.all-known.ensures.items c.reserve_for.ensures.at c.self.view_is in
     search (rules, same)
 
-pub returns-in_err-reserve-clause-tree : goal.returns-in_err-reserve-clause-tree
-returns-in_err-reserve-clause-tree c =
+pub returns-in_err-reserve_for-clause-tree : goal.returns-in_err-reserve_for-clause-tree
+returns-in_err-reserve_for-clause-tree c =
     subst IsTree
-    (sym (stays c.self.inside.nodes.items _ c.self.inside.origins c.reserve.new.self c.args.self.now c.all-known.ensures.items c.reserve.ensures.at c.self.view_is))
+    (sym (stays c.self.inside.nodes.items _ c.self.inside.origins c.reserve_for.new.self c.args.self.now c.all-known.ensures.items c.reserve_for.ensures.at c.self.view_is))
     (stored_tree c.self.inside.nodes.items c.self.inside.origins c.self.inside.best c.args.self.now c.self.invariant c.self.view_is)
 
 pub returns-in_err-best-clause-err : goal.returns-in_err-best-clause-err
 returns-in_err-best-clause-err c =
     let same =
-    ap (λ l. shown l c.reserve.new.self) c.in_err-best.ensures.err
-    ∙ stays c.self.inside.nodes.items _ c.self.inside.origins c.reserve.new.self c.args.self.now c.all-known.ensures.items c.reserve.ensures.at c.self.view_is in
+    ap (λ l. shown l c.reserve_for.new.self) c.in_err-best.ensures.err
+    ∙ stays c.self.inside.nodes.items _ c.self.inside.origins c.reserve_for.new.self c.args.self.now c.all-known.ensures.items c.reserve_for.ensures.at c.self.view_is in
     search (rules, same)
 
 pub returns-in_err-best-clause-tree : goal.returns-in_err-best-clause-tree
 returns-in_err-best-clause-tree c =
     subst IsTree
-    (sym (ap (λ l. shown l c.reserve.new.self) c.in_err-best.ensures.err
-    ∙ stays c.self.inside.nodes.items _ c.self.inside.origins c.reserve.new.self c.args.self.now c.all-known.ensures.items c.reserve.ensures.at c.self.view_is))
+    (sym (ap (λ l. shown l c.reserve_for.new.self) c.in_err-best.ensures.err
+    ∙ stays c.self.inside.nodes.items _ c.self.inside.origins c.reserve_for.new.self c.args.self.now c.all-known.ensures.items c.reserve_for.ensures.at c.self.view_is))
     (stored_tree c.self.inside.nodes.items c.self.inside.origins c.self.inside.best c.args.self.now c.self.invariant c.self.view_is)
 
 pub overflow_sub-count : goal.overflow_sub-count
@@ -76,7 +76,7 @@ returns-clause-ok c =
     let size = length-revs_in c.insert.new.self.items in
     grown c.self.inside.nodes.items c.insert.new.self.items c.self.inside.origins c.extend.new.self c.revs-revs.result.now c.args.content c.args.origin
     c.self.invariant.linked c.all.ensures.linked c.in_ok-best.ensures.tree kept
-    (λ i low. c.extend.ensures.old i (omega (arith, low, old)) ∙ c.reserve.ensures.at i (omega (arith, low, old)))
+    (λ i low. c.extend.ensures.old i (omega (arith, low, old)) ∙ c.reserve_for.ensures.at i (omega (arith, low, old)))
     (λ i low high. c.extend.ensures.new i (omega (arith, low, old)) (omega (arith, high, old, new, longer, size, sizes)))
     ∙ ap (λ t. merged t c.revs-revs.result.now c.args.content c.args.origin) c.self.view_is
     ∙ ap (λ revs. merged c.args.self.now revs c.args.content c.args.origin) c.revs-revs.ensures.all

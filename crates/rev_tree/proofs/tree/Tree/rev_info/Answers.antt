@@ -1,6 +1,6 @@
 use Rattle.proof_prelude.proofs.{Some, sym, ap, ◌∙◌, subst, same_Some}
 use Rattle.rev_core.specs.{IsAncestry}
-use Rattle.rev_tree.specs.{IsTree, IsAncestry-ancestors, NodeValue}
+use Rattle.rev_tree.specs.{IsAncestry-ancestors, NodeValue}
 use Rattle.rev_tree.proofs.{content_is, has_is, place_is, place_known, place_unknown, shows, stored_tree}
 use Rattle.rev_tree.proofs.tree.Tree.rev_info.Goals as goal
 
