@@ -69,7 +69,7 @@ fn copy_of(alloc: Global, logs: &Logs, id: &RepId) -> Result<Log, AllocError> {
     }
 }
 
-/// Returns the id of the replication from the database with UUID 1 into the database with UUID `target`.
+/// Returns the replication id whose source is UUID 1, and whose target is the UUID `target`.
 fn from_one(target: u64) -> RepId {
     RepId {
         source: 1,

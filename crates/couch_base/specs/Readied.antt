@@ -15,7 +15,8 @@ pub record IsMadeOf (d : Document) (m : PreparedTree) : Type 0 where
   pub tree : m.tree ≡ merged no_revisions d.ancestry (content_of d.deleted d.body) origin
   pub document : IsDocumentTree m.tree
 
--- A prepared tree at index i of the list `all` is the tree (`IsMadeOf`) of the document, if any, at index i of `docs`.
+-- If the list `docs` has a document at index i, and the list `all` has a prepared tree at index i, the tree was prepared
+-- for this document (`IsMadeOf`).
 abbrev pub AreMade : List Document → List (Option PreparedTree) → Type 0
 AreMade docs all =
     (i : ℕ) (d : Document) (m : PreparedTree) → slice_get docs i ≡ Some d → slice_get all i ≡ Some (Some m) → IsMadeOf d m

@@ -88,7 +88,7 @@ impl Confirm {
         !self.cut && self.blocks.is_confirmed()
     }
 
-    /// Whether the first input line has a document, and no input line has a checksum.
+    /// Whether two conditions hold: the first input line has a document, and no input line has a checksum.
     pub fn is_without_sums(&self) -> bool {
         self.first_leaf && !self.sums
     }

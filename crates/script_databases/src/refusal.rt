@@ -33,8 +33,8 @@ pub enum Refusal {
     BadLine,
     /// A timestamp is after the year 9999.
     BadMoment,
-    /// A requested page of the changes feed has a goal (an upper bound) that is not above the page's start. No script
-    /// line is expected to fail with `BadRange`.
+    /// The request for a page of the changes feed is invalid: its upper bound is not above its start. No script line is
+    /// expected to fail with `BadRange`.
     BadRange,
     /// A document's `_revisions` is not an ancestry.
     BadRevisions,

@@ -17,8 +17,8 @@ pub struct Refused {
     reason: StoredReason,
 }
 
-/// The stored form of the reason in a ledger row. A contradiction is stored in a heap block, because it has three
-/// revisions.
+/// The stored form of the reason in a ledger row. A contradiction is stored in a heap block, because its three
+/// revisions need 216 bytes.
 #[derive(Drop)]
 enum StoredReason {
     Filtered,
