@@ -2,7 +2,8 @@
 //!
 //! A bench is a test fixture that holds the databases or peers of a test. A bench also holds the values that earlier
 //! calls of the test returned. Each kind of call is a variant of an enum. The code for each kind of call is proved
-//! once, and all tests use this code. A new test needs no new proof, because the test is only a table of calls.
+//! once, and all tests use this code. A new test needs no new proof, because all code that performs the test's calls is
+//! proved already.
 
 // Calls on databases.
 mod database_rows;

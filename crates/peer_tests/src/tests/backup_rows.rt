@@ -110,14 +110,15 @@ fn other_life_refused(rt: HostRuntime) {
             Call::PutEntryOf(SOURCE, REP, TARGET, S2),
             "OtherLife { now: 1 }",
         ),
-        // The entry is from another life, and is older than the stored entry. `PutEntry` first checks the entry's life.
+        // `PutEntry` creates an entry from life 0, but the source now has life 1. The new entry also records a lower
+        // sequence than the stored entry of the session S1. `PutEntry` first checks the entry's life.
         (Call::PutEntry(SOURCE, REP, S1, 1), "OtherLife { now: 1 }"),
         (Call::SourceLog(SOURCE, REP), "1 at 3;"),
         (Call::Page(SOURCE, 3, 4), "3 to 4: 4 e 1-a;"),
-        // The second window of the test is from another life (incarnation) of the source than the session S2. The
-        // second window of the test begins at sequence 3, but the stored windows of the session S2 end at 6. `Append`
-        // checks the life of a window before it checks the start of the window. When the test first appends a window to
-        // the session S3, this session does not exist yet.
+        // The second window of the test is from life 1 of the source, but the session S2 is from life 0. The second
+        // window of the test begins at sequence 3, but the stored windows of the session S2 end at 6. `Append` checks
+        // the life of a window before it checks the start of the window. When the test first appends a window to the
+        // session S3, this session does not exist yet.
         (Call::Append(TARGET, S2, SECOND), "OtherLife { now: 0 }"),
         (Call::Append(TARGET, S3, SECOND), "NoSuchSession"),
         (

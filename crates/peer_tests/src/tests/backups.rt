@@ -28,7 +28,7 @@ fn keep(alloc: Global, backups: &mut Vec<Backup>, backup: Backup) -> Option<Stri
     text
 }
 
-/// Restores the peer at an index from a backup.
+/// Restores a peer from a backup, or returns `None` if `peer` or `backup` is `None`.
 pub(crate) fn restore_at(
     alloc: Global,
     peer: Option<&mut Peer<Rules>>,

@@ -22,7 +22,7 @@ pub(crate) fn leaves(alloc: Global, db: &Database, id: &str) -> Option<String> {
     all_at(alloc, db, &id, leaves.as_slice())
 }
 
-/// Returns the texts of the given revisions of a document.
+/// Formats a document at each of the given revisions, and concatenates the strings.
 fn all_at(alloc: Global, db: &Database, id: &DocId, revs: &[Rev]) -> Option<String> {
     let mut all = Some(String::new(alloc));
     for rev in revs {
@@ -31,7 +31,7 @@ fn all_at(alloc: Global, db: &Database, id: &DocId, revs: &[Rev]) -> Option<Stri
     all
 }
 
-/// Returns the text of a revision of a document.
+/// Formats a document at a revision as a string: the id, the ancestry, `live` or `deleted`, and the body.
 fn at(alloc: Global, db: &Database, id: &DocId, rev: Rev) -> Option<String> {
     match db.document(alloc, id, rev) {
         Ok(Some(doc)) => doc_text(alloc, &doc),
@@ -39,8 +39,8 @@ fn at(alloc: Global, db: &Database, id: &DocId, rev: Rev) -> Option<String> {
     }
 }
 
-/// Returns, in order, the texts of the rows for a given document in a session's ledger. Each text has the fetched
-/// document and the reason.
+/// Returns, in order, the texts of the rows for a given document in a session's ledger. The text of a row has the
+/// fetched document, and the reason why the peer did not store the document.
 pub(crate) fn refused(
     alloc: Global,
     peer: &Peer<Rules>,
@@ -64,7 +64,7 @@ fn refused_of(alloc: Global, rows: &[Refused], id: &str) -> Option<String> {
     all
 }
 
-/// Returns the text of a ledger row: the fetched document, and the row's reason.
+/// Returns the text of a ledger row: the fetched document, and the reason why the peer did not store the document.
 fn refused_text(alloc: Global, row: &Refused) -> Option<String> {
     joined(doc_text(alloc, row.doc()), shown(alloc, &row.reason()))
 }

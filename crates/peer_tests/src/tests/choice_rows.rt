@@ -203,8 +203,8 @@ fn holes_of_chosen_documents(rt: HostRuntime) {
         (Call::HoleAbove(0, Some(0)), "clean"),
         (Call::HoleAbove(0, Some(1)), "hole 1 d1 1-a"),
         (Call::HoleAbove(1, None), "hole 3 d3 1-a"),
-        // A leaf that the target has stored is covered for each selection. The leaf may come from a replication of
-        // another selection, or from a load.
+        // A leaf that the target has stored is covered for each selection, even if a load or a replication of another
+        // selection stored the leaf.
         (
             Call::LoadTarget(r#"{"_id":"d1","_rev":"1-a"}"#),
             "Changed { seq: 3 }",

@@ -23,12 +23,12 @@ pub(crate) enum Call<'a> {
     Load(&'a str),
     /// Load a document into the target.
     LoadTarget(&'a str),
-    /// Select documents by id, and store the selection as the test's next selection.
+    /// Select documents by id, and append the selection to the test's list of selections.
     Choose(&'a [&'a str]),
-    /// Select the documents with the numbers from 1 to a given number, and store the selection as the test's next
-    /// selection. `ChooseMany` passes the id of document 1 twice.
+    /// Select the documents whose ids are the numbers from 1 to a given number, and append the selection to the test's
+    /// list of selections. The list of ids from which `ChooseMany` creates the selection has the id 1 twice.
     ChooseMany(u32),
-    /// Copy a selection, and store the copy as the test's next selection.
+    /// Copy a selection, and append the copy to the test's list of selections.
     Copy(usize),
     /// Check whether two selections, which are given by their indices, are equal.
     Equal(usize, usize),
@@ -36,10 +36,10 @@ pub(crate) enum Call<'a> {
     Has(Under, &'a str),
     /// Format the id of the replication from the source into the target.
     Text(Under),
-    /// Read a page of the source, given the sequence before the page, the goal, and the number of rows to scan.
+    /// Read a page of the source, given the sequence before the page, the goal, and the maximum number of rows to scan.
     Page(u64, u64, u64, Under),
-    /// Replicate the source into the target with one thread, given the session id and the number of feed rows that each
-    /// window scans.
+    /// Replicate the source into the target with one thread, given the session id and the maximum number of feed rows
+    /// that each window scans.
     Replicate(SessionId, u64, Under),
     /// Begin a session at the target.
     Begin(SessionId, Under),
@@ -270,7 +270,7 @@ fn number_id(alloc: Global, number: u32) -> Option<DocId> {
     DocId::parse(alloc, text.as_str()).ok()
 }
 
-/// Selects the documents with the numbers 1 to `count`, and passes the first id twice.
+/// Creates a selection from a list of ids: the numbers from 1 to `count`, and the number 1 again.
 fn choose_many(alloc: Global, choices: &mut Vec<Chosen>, count: u32) -> Option<String> {
     let mut ids = Vec::new(alloc);
     for number in 0..count {
@@ -326,7 +326,7 @@ fn page(
     }
 }
 
-/// Reads a page that scans 500 rows.
+/// Scans at most 500 rows of the source's feed, and returns the page, or `None` if the page cannot be read.
 fn page_of(
     alloc: Global,
     source: &Peer<Rules>,
@@ -354,7 +354,8 @@ fn store(
     }
 }
 
-/// Returns the plan of a session with a selection.
+/// Returns the plan of a session that replicates only the documents in `chosen`, or all documents if `chosen` is
+/// `None`.
 fn plan_under(session: SessionId, batch: u64, chosen: Option<&Chosen>) -> Option<Plan> {
     let Some(mut plan) = plan(session, batch, 0) else {
         return None;

@@ -33,7 +33,8 @@ fn parcel(alloc: Global) -> Option<Parcel> {
     source.open_revs(alloc, &asked).ok()
 }
 
-/// Moves a parcel into a thread, which formats the parcel as a string. Returns the parcel and the string.
+/// Moves a parcel into a thread, which formats the parcel as a string. Returns the thread's result (the parcel and the
+/// parcel's string), or `None` if the thread cannot start.
 fn read_parcel<R: Threads>(
     rt: &R,
     alloc: Global,
@@ -58,8 +59,8 @@ fn a_parcel_goes_into_a_thread_and_back(rt: HostRuntime) {
     expect_answer(&rt, 1, parcel_text(rt.alloc(), &parcel), TEXT);
 }
 
-/// Moves a peer's backup into a thread, which reads the UUID and the update sequence. Returns the backup, and a string
-/// with both numbers.
+/// Moves a peer's backup into a thread, which reads the UUID and the update sequence. Returns the thread's result (the
+/// backup, and a string with the UUID and the update sequence), or `None` if the thread cannot start.
 fn read_backup<R: Threads>(
     rt: &R,
     alloc: Global,

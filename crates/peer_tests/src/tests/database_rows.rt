@@ -95,8 +95,8 @@ fn a_changed_document_moves_in_the_feed(rt: HostRuntime) {
 #[test]
 fn puts_as_given(rt: HostRuntime) {
     const GROWN: &str = r#"{"_id":"d","_revisions":{"start":3,"ids":["c","b"]}}"#;
-    // The document `LONGER` adds a missing ancestor to the tree, and the document `ANCESTOR` adds the first content of
-    // 2-b. Both are changes.
+    // The document `LONGER` adds the missing ancestor 1-a to the tree. The document `ANCESTOR` adds a content to the
+    // revision 2-b, which had no content. A put of either document returns `Changed`.
     const LONGER: &str = r#"{"_id":"d","_revisions":{"start":3,"ids":["c","b","a"]}}"#;
     const ANCESTOR: &str = r#"{"_id":"d","_rev":"2-b","n":1}"#;
     // Storing the document `AGAIN` changes nothing, because a revision keeps its first content.
@@ -201,7 +201,8 @@ fn edits_refused_by_name(rt: HostRuntime) {
 
 #[test]
 fn an_edit_that_is_there(rt: HostRuntime) {
-    // The document `THERE` has the revision that the edit would create, but without this revision's parent.
+    // The document `THERE` has the revision that an edit of 1-a with an empty body creates. `THERE` does not name this
+    // revision's parent 1-a.
     const THERE: &str = r#"{"_id":"d","_rev":"2-1c600d37126a8e6d3c67d6f7a6a5c299"}"#;
     static ROWS: Rows = &[
         (
@@ -235,8 +236,8 @@ fn at_the_last_sequences(rt: HostRuntime) {
         (Call::Numbers(B), "8 at 9007199254740991"),
         (Call::Tree(A, "d"), "no document"),
         (Call::Put(A, LAST), "Changed { seq: 9007199254740991 }"),
-        // A put that changes nothing uses no update sequence. A put with a contradicting ancestry returns
-        // `Contradiction` even if the database has no sequence left.
+        // A put that changes nothing uses no update sequence. A put whose ancestry contradicts the document's tree
+        // returns `Contradiction` even if the database has no sequence left.
         (Call::Put(A, LAST), "Same"),
         (Call::Put(A, OTHER), "Contradiction 2-b,1-a,1-x"),
         (Call::Put(A, r#"{"_id":"e","_rev":"1-a"}"#), "SeqFull"),
@@ -270,8 +271,8 @@ fn a_fetched_document_has_its_ancestry_and_content(rt: HostRuntime) {
         (Call::Put(A, DELETED), "Changed { seq: 3 }"),
         (Call::Page(A, 0, 3, 10), "0 to 3: 3 d 2-a,3-c;"),
         (Call::Diff(B, FIRST), "0 to 3: d 2-a,3-c;"),
-        // A request or fetch lists the live leaf before the deleted leaf. The ancestry in `DELETED` ends at 2-b. The
-        // fetched ancestry of the leaf 3-c also has 1-r, the parent of 2-b in the tree.
+        // A request or fetch lists the live leaf before the deleted leaf. The oldest revision in the ancestry of
+        // `DELETED` is 2-b. The fetched ancestry of the leaf 3-c also has 1-r, the parent of 2-b in the tree.
         (
             Call::Fetch(A, FIRST),
             r#"0 to 3: d 2-a,1-r live {"n":1}; d 3-c,2-b,1-r deleted {};"#,
@@ -347,7 +348,7 @@ fn copies_of_a_database(rt: HostRuntime) {
     const LAST: u64 = 9_007_199_254_740_991;
     // The index of the copy that has the same life (incarnation number) as the first database.
     const SAME: usize = 1;
-    // The index of a copy of the first database with another life.
+    // The index of the copy whose life differs from the life of the first database.
     const OTHER: usize = 2;
     // The index of a copy of the database `OTHER`.
     const LATEST: usize = 3;

@@ -15,17 +15,17 @@ use test_support::{rev, rev_text, shown};
 /// A call on a database. A call names each database, window, request or parcel by an index.
 #[derive(Clone, Copy)]
 pub(crate) enum Call<'a> {
-    /// Create the test's next database with a UUID and an update sequence.
+    /// Create a database with a UUID and an update sequence, and append the database to the test's list of databases.
     DatabaseAt(u128, u64),
     /// Put a document.
     Put(usize, &'a str),
     /// Edit a document, given the document's id, the parent revision (an empty string for no parent), the deleted flag,
-    /// and the body. The last parameter is the number of the local write, which becomes the origin of the new revision.
+    /// and the body. The new revision's origin is a local write (`Origin::Local`), whose number is the last parameter.
     Edit(usize, &'a str, &'a str, bool, &'a str, u64),
-    /// Copy a database, and store the copy as the test's next database. The copy has the given life (incarnation
+    /// Copy a database, and append the copy to the test's list of databases. The copy has the given life (incarnation
     /// number), or the life of the copied database if no life is given.
     Copy(usize, Option<u64>),
-    /// Read the UUID and the update sequence.
+    /// Read the UUID and the update sequence of a database.
     Numbers(usize),
     /// Read the life of a database, a number that changes when the database is restored.
     Life(usize),
@@ -37,13 +37,14 @@ pub(crate) enum Call<'a> {
     Node(usize, &'a str, &'a str),
     /// Read the document at a revision.
     Document(usize, &'a str, &'a str),
-    /// Read a page, given the sequence before the page, the goal and the maximum number of rows. Store the page as the
-    /// next window.
+    /// Read a page, given the sequence before the page, the goal and the maximum number of rows. The call appends the
+    /// page to the test's list of windows.
     Page(usize, u64, u64, u64),
-    /// Compute a database's request for the leaves of a window that the database lacks, and store the request as the
-    /// next request.
+    /// Compute which leaves in a window a database lacks, and append the request for these leaves to the test's list of
+    /// requests.
     Diff(usize, usize),
-    /// Fetch the documents for a request from a database, and store the documents as the next parcel.
+    /// Fetch requested documents from a database, and append the parcel (the fetched documents) to the test's list of
+    /// parcels.
     Fetch(usize, usize),
 }
 
@@ -176,7 +177,7 @@ fn read(alloc: Global, db: &Database, call: &Call) -> Option<String> {
     }
 }
 
-/// Creates the test's next database, with a given update sequence.
+/// Creates a database with a given update sequence, and appends the database to the list `databases`.
 fn make_at(alloc: Global, databases: &mut Vec<Database>, uuid: u128, seq: u64) -> Option<String> {
     match Database::new_at(alloc, uuid, seq) {
         Ok(db) => made_text(alloc, databases.push(db).ok()),
@@ -187,8 +188,8 @@ fn make_at(alloc: Global, databases: &mut Vec<Database>, uuid: u128, seq: u64) -
 /// The greatest life (incarnation number) of a database: 2^53 - 1.
 const LAST_LIFE: u64 = 9_007_199_254_740_991;
 
-/// Copies a database, and stores the copy as the test's next database. The copy has the given life (incarnation
-/// number), or the life of the copied database if no life is given.
+/// Copies a database, and appends the copy to the list `databases`. The copy has the given life (incarnation number),
+/// or the life of the copied database if no life is given.
 fn copy(
     alloc: Global,
     databases: &mut Vec<Database>,
@@ -214,7 +215,7 @@ fn copied(alloc: Global, db: &Database, life: Option<u64>) -> Option<Database> {
     }
 }
 
-/// Reads a page of the feed, and stores the page as the test's next window.
+/// Reads a page of the feed, and appends the page to the list `windows`.
 fn page(
     alloc: Global,
     db: &Database,
@@ -229,7 +230,7 @@ fn page(
     }
 }
 
-/// Computes a database's request for the leaves of a window that the database lacks, and stores the request.
+/// Computes which leaves in a window a database lacks, and stores the request for these leaves.
 fn diff(alloc: Global, db: &Database, held: &mut Held, window: usize) -> Option<String> {
     let Some(window) = held.windows.get(window) else {
         return None;
@@ -242,7 +243,7 @@ fn missed(alloc: Global, db: &Database, window: &Window) -> Option<Asked> {
     db.revs_diff(alloc, window).ok()
 }
 
-/// Fetches the documents for a request from a database, and stores the parcel.
+/// Fetches requested documents from a database, and stores the parcel (the fetched documents).
 fn fetch(alloc: Global, db: &Database, held: &mut Held, asked: usize) -> Option<String> {
     let Some(asked) = held.asked.get(asked) else {
         return None;
@@ -250,7 +251,7 @@ fn fetch(alloc: Global, db: &Database, held: &mut Held, asked: usize) -> Option<
     keep_parcel(alloc, &mut held.parcels, fetched(alloc, db, asked))
 }
 
-/// Returns the documents that a database has for a request.
+/// Fetches requested documents from a database, or returns `None` if an allocation fails.
 fn fetched(alloc: Global, db: &Database, asked: &Asked) -> Option<Parcel> {
     db.open_revs(alloc, asked).ok()
 }
@@ -293,7 +294,8 @@ pub(crate) fn keep_asked(
     text
 }
 
-/// Stores an optional parcel, and returns the parcel's text.
+/// Appends a parcel to the list `parcels`, and returns the parcel's text. Returns `None` if `parcel` is `None` or an
+/// allocation fails.
 pub(crate) fn keep_parcel(
     alloc: Global,
     parcels: &mut Vec<Parcel>,
@@ -409,7 +411,7 @@ fn document(alloc: Global, db: &Database, id: &str, text: &str) -> Option<String
     }
 }
 
-/// Returns the text of an optional document.
+/// Returns the text of a document, or the string `no content` if `found` is `None`.
 fn content_text(alloc: Global, found: Option<Doc>) -> Option<String> {
     match found {
         Some(doc) => doc_text(alloc, &doc),

@@ -1,5 +1,5 @@
 //! The functions in this file call `replicate_alone` and functions of `Peer` with large values, such as documents with
-//! long ancestries. The contracts allow the error `Memory` even if no allocation fails. Tests must therefore check that
+//! long ancestries. Because the contracts allow the error `Memory` even if no allocation fails, tests must check that
 //! calls with large values succeed.
 use crate::tests::databases::{edit_text, put_text};
 use crate::tests::plans::plan;
@@ -12,7 +12,7 @@ use rev_tree::{SessionId, Tree};
 use std::alloc::Global;
 use test_support::rev_text;
 
-/// Returns the digits of a number as a signature.
+/// Returns the revision signature that consists of the decimal digits of a number.
 fn sig(alloc: Global, number: u32) -> Option<Sig> {
     let Ok(text) = number.to_string(alloc) else {
         return None;
@@ -59,7 +59,8 @@ pub(crate) fn load_long(alloc: Global, peer: &mut Peer<Rules>, length: u32) -> O
     put_text(alloc, peer.load(&doc))
 }
 
-/// Loads the document d with a revision of generation 1, whose signature has the digits of a number.
+/// Loads the document d at a revision of generation 1. The revision's signature consists of the decimal digits of
+/// `number`.
 fn load_leaf(alloc: Global, peer: &mut Peer<Rules>, number: u32) -> Option<String> {
     let Some(sig) = sig(alloc, number) else {
         return None;

@@ -76,7 +76,7 @@ fn a_broken_chain_brings_nothing_to_its_end(rt: HostRuntime) {
             Call::Load(0, r#"{"_id":"d","_rev":"1-a"}"#),
             "Changed { seq: 1 }",
         ),
-        // The hop from peer 1 to peer 2 comes first, so peer 2 does not get the document d from peer 0.
+        // The hop from peer 1 to peer 2 copies no document, because peer 1 gets the document d only by the next hop.
         (Call::Along(&[(1, 2), (0, 1), (3, 2)]), "done"),
         (Call::Tree(1, "d"), "1-a of 1"),
         (Call::Tree(2, "d"), "no document"),

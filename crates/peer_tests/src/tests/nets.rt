@@ -31,8 +31,8 @@ pub(crate) enum Call<'a> {
     Along(&'a [Places]),
     /// Replicate along hops, with windows of one row and at most two windows for each replication.
     AlongTwoRows(&'a [Places]),
-    /// Replicate all peers through the hub. The arguments are the number of plans into the hub, and the number of plans
-    /// out of the hub.
+    /// Replicate all peers through the hub. The arguments are the number of plans for replications into the hub, and
+    /// the number of plans for replications out of the hub.
     Hub(usize, usize),
     /// Audit a replication from the first peer, the source, into the second peer, the target.
     Audit(usize, usize),
@@ -189,7 +189,7 @@ impl Bench {
     }
 }
 
-/// Reads the tree of a document, or the ancestry and the content of each leaf of the document.
+/// Performs the call `Tree` or the call `Leaves` on a database.
 fn of_database(alloc: Global, db: &Database, call: &Call) -> Option<String> {
     match *call {
         Call::Tree(_, id) => tree(alloc, db, id),

@@ -40,7 +40,7 @@ const OTHER_REP: Rep = Rep {
 const D: &str = r#"{"_id":"d","_rev":"1-a"}"#;
 
 /// The revision that an edit of the document d creates from the parent 1-a and an empty body. The revision's signature
-/// is the MD5 of the parent, the kind and the body.
+/// is the MD5 of three parts: the parent, `live`, and the body.
 const NEXT: &str = "2-1c600d37126a8e6d3c67d6f7a6a5c299";
 
 /// The parameters of a session of the replication `REP` from sequence 0 to the goal 1, without a base session.
@@ -140,7 +140,7 @@ fn a_refused_descendant_covers(rt: HostRuntime) {
         (Call::Covered(TARGET, "d", "1-a"), "true"),
         (Call::Record(TARGET, S1, 11), "1"),
     ];
-    // The target still has no tree of the document d. The second session therefore requests d, and the target's filter
+    // Because the target still has no tree of the document d, the second session requests d, and the target's filter
     // refuses d again.
     const LAST: Rows = &[
         (
@@ -324,7 +324,7 @@ fn a_session_from_beginning_to_end(rt: HostRuntime) {
             "session 1 from 0 to 3 checked 3 found 3 read 3 written 1 failed 2, 10 to 20",
         ),
         // The origin of an arrival has two parts: the session, and the sequence of the document's row in the feed. The
-        // origin of a local write is the number of the write.
+        // origin of a revision from a local write is the write's number, counted from 0.
         (
             Call::Node(TARGET, "x1", "1-a"),
             "no parent, Feed(SessionId(1), 1), live {}",
@@ -751,7 +751,7 @@ fn an_audit_is_clean(rt: HostRuntime) {
 fn an_audit_finds_a_hole(rt: HostRuntime) {
     const E: &str = r#"{"_id":"e","_rev":"1-a"}"#;
     const ROWS: Rows = &[
-        // The peer `OTHER` is not the source of the replication, but the session stores a window of this peer.
+        // The session stores a window of the peer `OTHER`, which is not the source of the session's replication.
         (Call::Load(OTHER, E), "Changed { seq: 1 }"),
         (Call::Begin(TARGET, S1, TO_ONE, 10), "begun"),
         (Call::Page(OTHER, 0, 1), "0 to 1: 1 e 1-a;"),

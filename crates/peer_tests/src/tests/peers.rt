@@ -50,16 +50,17 @@ pub(crate) struct Beginning {
 /// A call on a peer. A call names each peer, window, request or parcel by an index.
 #[derive(Clone, Copy)]
 pub(crate) enum Call<'a> {
-    /// Create the next peer with a UUID, and with a filter that refuses document ids with a given prefix.
+    /// Create a peer with a UUID and a filter, and append the peer to the test's list of peers. If a prefix is given,
+    /// the filter refuses the documents whose ids begin with the prefix.
     Peer(u128, Option<&'a str>),
-    /// Create the test's next peer, whose database has a given update sequence.
+    /// Create a peer whose database has a given update sequence, and append the peer to the test's list of peers.
     PeerAt(u128, Option<&'a str>, u64),
     /// Load a document.
     Load(usize, &'a str),
     /// Edit a document, given the document's id, the parent revision (an empty string for none), the deleted flag, and
     /// the body.
     Edit(usize, &'a str, &'a str, bool, &'a str),
-    /// Read the UUID and the update sequence.
+    /// Read the UUID and the update sequence of a peer's database.
     Numbers(usize),
     /// Read the life of the peer's database, a number that rises when the peer is restored.
     Life(usize),
@@ -72,37 +73,39 @@ pub(crate) enum Call<'a> {
     /// Read whether a peer covers a revision of a document. A peer covers a revision if the revision is in the
     /// document's tree, or in an ancestry of the document in a session's ledger.
     Covered(usize, &'a str, &'a str),
-    /// Read a page of at most 500 rows, given the sequence before the page and the goal. Store the page as the next
-    /// window.
+    /// Read a page of at most 500 rows, given the sequence before the page and the goal. The call appends the page to
+    /// the test's list of windows.
     Page(usize, u64, u64),
-    /// Compute the request for the leaves of a window that a peer lacks, and store the request as the next request.
+    /// Compute which leaves in a window a peer lacks, and append the request for these leaves to the test's list of
+    /// requests.
     Diff(usize, usize),
-    /// Fetch the documents for a request from a peer, and store the documents as the next parcel.
+    /// Fetch requested documents from a peer, and append the parcel (the fetched documents) to the test's list of
+    /// parcels.
     Fetch(usize, usize),
-    /// Begin a session with a timestamp.
+    /// Begin a session, given the session's parameters and a timestamp.
     Begin(usize, SessionId, Beginning, u64),
     /// Append a copy of a window to a session.
     Append(usize, SessionId, usize),
     /// Settle a copy of a parcel in a session.
     Settle(usize, SessionId, usize),
-    /// Record a session with a timestamp.
+    /// Record a session, given a timestamp.
     Record(usize, SessionId, u64),
-    /// Conclude a session with a timestamp.
+    /// Conclude a session, given a timestamp.
     Conclude(usize, SessionId, u64),
     /// Read the entry of a session.
     Entry(usize, SessionId),
     /// Read the windows of a session, and whether each window still has its complete rows.
     Windows(usize, SessionId),
-    /// Read a peer's log of a replication whose target is this peer.
+    /// Read a replication's log from the peer that is the replication's target.
     TargetLog(usize, Rep),
-    /// Read a peer's log of a replication whose source is this peer.
+    /// Read a replication's log from the peer that is the replication's source.
     SourceLog(usize, Rep),
     /// Create an entry with a given session and recorded sequence, and store the entry in a source's log of a
     /// replication.
     PutEntry(usize, Rep, SessionId, u64),
-    /// Store the target's entry of a session in the source's log of a replication.
+    /// Read a session's entry at the target, and store the entry in the source's log of a replication.
     PutEntryOf(usize, Rep, usize, SessionId),
-    /// Back up a peer, and store the backup as the test's next backup. The call returns the UUID and the update
+    /// Back up a peer, and append the backup to the test's list of backups. The call returns the UUID and the update
     /// sequence of the backed-up database.
     Backup(usize),
     /// Restore a peer from a backup.
@@ -111,11 +114,13 @@ pub(crate) enum Call<'a> {
     Common(usize, usize, Rep),
     /// Audit a replication from the first peer, the source, into the second peer, the target.
     Audit(usize, usize),
-    /// Check a plan between two peers, with a given maximum number of rows of a window.
+    /// Check whether a plan is valid for two peers, given the maximum number of rows of each window of the plan.
     CheckPlan(usize, usize, u64),
-    /// Begin the session of a plan with a timestamp. The first peer is the source, and the second peer is the target.
+    /// Begin the session of a new plan, given the session id and a timestamp. The first peer is the source, and the
+    /// second peer is the target.
     BeginPlan(SessionId, u64),
-    /// Read the entry of a session of the second peer, and store the entry in the first peer's log.
+    /// Read a session's entry at the second peer, the target, and store the entry in the log of the first peer, the
+    /// source.
     RecordAtSource(SessionId),
     /// Search the first peer's feed above a sequence for the first leaf that the second peer does not cover.
     HoleAbove(usize, usize, u64),
@@ -136,8 +141,8 @@ pub(crate) type Rows = &'static [(Call<'static>, &'static str)];
 
 /// Lists of calls that are performed in order.
 ///
-/// A test refers to a single static variable, which contains all lists of the test. If a test referred to several
-/// static variables, the prover would process each variable separately.
+/// A test refers to a single static variable, which contains all lists of calls of the test. If a test referred to
+/// several static variables, the prover would process each variable separately.
 pub(crate) type Lists = &'static [Rows];
 
 /// The peers of a test, the backups of the peers, and the windows, requests and parcels that calls returned.
@@ -184,7 +189,7 @@ impl Bench {
         }
     }
 
-    /// Performs a call on the peer at an index, or on two peers.
+    /// Performs a call on the peer with the index `place`, or on two peers if `place` is `None`.
     fn answer_of(&mut self, place: Option<usize>, call: &Call) -> Option<String> {
         let Some(at) = place else {
             return of_two(self.alloc, &mut self.peers, call);
@@ -244,7 +249,7 @@ fn of_one(alloc: Global, peer: &mut Peer<Rules>, held: &mut Held, call: &Call) -
     }
 }
 
-/// Performs a call on one peer that needs no stored window, request or parcel.
+/// Performs, on one peer, a call that needs no stored window, request or parcel.
 fn of_one_alone(alloc: Global, peer: &mut Peer<Rules>, call: &Call) -> Option<String> {
     match *call {
         Call::Load(_, text) => load(alloc, peer, text),
@@ -333,7 +338,7 @@ fn of_first_two(alloc: Global, peers: &mut Vec<Peer<Rules>>, call: &Call) -> Opt
     }
 }
 
-/// Creates the next peer.
+/// Creates a peer, and appends the peer to the list `peers`.
 pub(crate) fn make(
     alloc: Global,
     peers: &mut Vec<Peer<Rules>>,
@@ -346,7 +351,7 @@ pub(crate) fn make(
     made_text(alloc, peers.push(Peer::new(alloc, uuid, rules)).ok())
 }
 
-/// Creates the test's next peer, whose database has a given update sequence.
+/// Creates a peer whose database has a given update sequence, and appends the peer to the list `peers`.
 pub(crate) fn make_at(
     alloc: Global,
     peers: &mut Vec<Peer<Rules>>,
@@ -363,7 +368,7 @@ pub(crate) fn make_at(
     }
 }
 
-/// Reads a page of the feed, and stores the page as the test's next window.
+/// Reads a page of the feed, and appends the page to the list `windows`.
 fn page(
     alloc: Global,
     peer: &Peer<Rules>,
@@ -377,7 +382,7 @@ fn page(
     }
 }
 
-/// Computes a peer's request for the leaves of a window that the peer lacks, and stores the request.
+/// Computes which leaves in a window a peer lacks, and stores the request for these leaves.
 fn diff(alloc: Global, peer: &Peer<Rules>, held: &mut Held, window: usize) -> Option<String> {
     let Some(window) = held.windows.get(window) else {
         return None;
@@ -390,7 +395,7 @@ fn missed(alloc: Global, peer: &Peer<Rules>, window: &Window) -> Option<Asked> {
     peer.revs_diff(alloc, window).ok()
 }
 
-/// Fetches the documents for a request from a peer, and stores the parcel.
+/// Fetches requested documents from a peer, and stores the parcel (the fetched documents).
 fn fetch(alloc: Global, peer: &Peer<Rules>, held: &mut Held, asked: usize) -> Option<String> {
     let Some(asked) = held.asked.get(asked) else {
         return None;
@@ -398,7 +403,7 @@ fn fetch(alloc: Global, peer: &Peer<Rules>, held: &mut Held, asked: usize) -> Op
     keep_parcel(alloc, &mut held.parcels, fetched(alloc, peer, asked))
 }
 
-/// Returns the documents that a peer has for a request.
+/// Fetches requested documents from a peer, or returns `None` if an allocation fails.
 fn fetched(alloc: Global, peer: &Peer<Rules>, asked: &Asked) -> Option<Parcel> {
     peer.open_revs(alloc, asked).ok()
 }
@@ -442,7 +447,7 @@ fn settle(
     }
 }
 
-/// Stores an entry of a target's session in the source's log.
+/// Reads a session's entry at the target, and stores the entry in the source's log of a replication.
 fn put_of(
     alloc: Global,
     peers: &mut Vec<Peer<Rules>>,
@@ -479,7 +484,7 @@ pub(crate) fn agreed(
     common_text(alloc, &outgoing, &incoming)
 }
 
-/// Reads a peer's log of a replication whose target is this peer.
+/// Reads a replication's log from the peer that is the replication's target.
 pub(crate) fn target_log(alloc: Global, peer: &Peer<Rules>, rep: &RepId) -> Option<String> {
     let Ok(log) = peer.target_log(alloc, rep) else {
         return None;
@@ -487,7 +492,7 @@ pub(crate) fn target_log(alloc: Global, peer: &Peer<Rules>, rep: &RepId) -> Opti
     log_text(alloc, &log)
 }
 
-/// Reads a peer's log of a replication whose source is this peer.
+/// Reads a replication's log from the peer that is the replication's source.
 pub(crate) fn source_log(alloc: Global, peer: &Peer<Rules>, rep: &RepId) -> Option<String> {
     let Ok(log) = peer.source_log(alloc, rep) else {
         return None;

@@ -21,7 +21,7 @@ pub(crate) fn plan(session: SessionId, batch: u64, moment: u64) -> Option<Plan> 
     })
 }
 
-/// Checks a plan.
+/// Checks whether a plan is valid for two peers.
 pub(crate) fn check(
     alloc: Global,
     source: &Peer<Rules>,
@@ -55,7 +55,7 @@ pub(crate) fn begin(
     }
 }
 
-/// Stores the entry of a target's session in the source's log.
+/// Reads a session's entry at the target, and stores the entry in the source's log.
 pub(crate) fn record(
     alloc: Global,
     source: &mut Peer<Rules>,

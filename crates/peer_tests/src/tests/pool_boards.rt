@@ -289,8 +289,8 @@ fn progress_shown(rt: HostRuntime) {
     assert_eq!(rt; board.read(&mut viewer), (2, 2));
 }
 
-// A viewer reads the board while the writer is blocked. The test therefore detects a pool that updates the board only
-// at the end of a run.
+// A viewer reads the board while the writer is blocked. The test fails if the pool updates the board only at the end of
+// a run.
 #[test]
 fn progress_seen_beside_a_held_writer(rt: HostRuntime) {
     let Some((board, seats, viewer)) = board_for(rt.alloc(), 2) else {

@@ -34,9 +34,10 @@ pub(crate) struct How {
 /// A call on peers. A call names each peer by the peer's index.
 #[derive(Clone, Copy)]
 pub(crate) enum Call<'a> {
-    /// Create the next peer with a UUID, and with a filter that refuses document ids with a given prefix.
+    /// Create a peer with a UUID and a filter, and append the peer to the test's list of peers. If a prefix is given,
+    /// the filter refuses the documents whose ids begin with the prefix.
     Peer(u128, Option<&'a str>),
-    /// Create the next peer with a UUID, and with a database that has a given update sequence.
+    /// Create a peer whose database has a given update sequence, and append the peer to the test's list of peers.
     PeerAt(u128, u64),
     /// Load a given number of documents d0, d1 and so on.
     Fill(usize, u64),
@@ -52,9 +53,9 @@ pub(crate) enum Call<'a> {
     Leaves(usize, &'a str),
     /// Read the refused leaves of a document from a session's ledger, with the reasons.
     Refused(usize, SessionId, &'a str),
-    /// Read a peer's log of a replication whose source is this peer.
+    /// Read a replication's log from the peer that is the replication's source.
     SourceLog(usize, Rep),
-    /// Read a peer's log of a replication whose target is this peer.
+    /// Read a replication's log from the peer that is the replication's target.
     TargetLog(usize, Rep),
     /// Compare the source's and the target's log of a replication.
     Common(usize, usize, Rep),
