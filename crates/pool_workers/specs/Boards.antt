@@ -12,7 +12,8 @@ use Rattle.pool_workers.specs.declared.fault.Halt.{Halt}
 abbrev pub WorksAt : Board → BoardSeat → Type 0
 WorksAt b s = CameWith b s × (s.works ≡ true)
 
--- The counters of the worker with the seat s are 0. The seat's lower bounds for the counters of all workers are also 0.
+-- The counters of the worker with the seat s are 0. The seat s also has a lower bound of each counter of the board, and
+-- all these bounds are 0.
 abbrev pub HasNothing : BoardSeat → Type 0
 HasNothing s = (s.read ≡ 0) × (s.settled ≡ 0) × (seen_read s ≡ 0) × (seen_settled s ≡ 0)
 
@@ -52,13 +53,14 @@ AreSeated None seats = seats ≡ []
 AreSeated (Some b) seats = All (WorksAt b) seats
 
 -- If the run has a progress board, each seat in the list `seats` is a worker's seat of this board. If the run has a
--- progress board, the list's seats and the `out` seats in use are together at least as many as the workers. If the run
+-- progress board, `seats` has at least `workers` - `out` seats, one for each writer that has not started. If the run
 -- has no progress board, the list `seats` is empty.
 abbrev pub AreSeats : Option Board → ℕ → ℕ → List BoardSeat → Type 0
 AreSeats None out workers seats = seats ≡ []
 AreSeats (Some b) out workers seats = (workers ≤ length seats + out) × All (WorksAt b) seats
 
--- The list `now` has the returned seats of the list `given`, in the same order, and no counter of a seat has fallen.
+-- The list `now` has the seats of the list `given`, in the same order, and no counter of a seat has fallen. If the run
+-- has no progress board, the lists `given` and `now` are empty.
 abbrev pub AreBack : Option Board → List BoardSeat → List BoardSeat → Type 0
 AreBack None given now = (given ≡ []) × (now ≡ [])
 AreBack (Some b) given now = AreRisen b given now
@@ -96,17 +98,17 @@ abbrev pub HasRoom : Option Board → ℕ → Option BoardSeat → Type 0
 HasRoom (Some b) n (Some s) = s.settled + n ≤ s.read
 HasRoom board n seat = Unit {0}
 
--- A writer's seat changes from s to t, and the seat's settled counter grows by z - a, the difference of two counts of
--- documents. If the run has no progress board, the optional seats s and t are equal.
+-- A writer's seat changes from s to t while a count of settled documents changes from a to z. The seat's settled
+-- counter grows by z - a, as much as the count. If the run has no progress board, the optional seats s and t are equal.
 abbrev pub HasSettled : Option Board → ℕ → ℕ → Option BoardSeat → Option BoardSeat → Type 0
 HasSettled None a z s t = t ≡ s
 HasSettled (Some b) a z (Some s) (Some t) =
     WorksAt b t × (t.number ≡ s.number) × (t.read ≡ s.read) × (t.settled + a ≡ s.settled + z)
 HasSettled (Some b) a z s t = ⊥
 
--- A writer's seat changes from s to t, and the seat's settled counter grows by z - a, the difference of two counts of
--- documents. The read counter of the changed seat t is at least the read counter of the original seat s. If the writer
--- was not stopped, the seat's read counter also grows by z - a, the difference of the two counts. If the run has no
+-- A writer's seat changes from s to t while a count of settled documents changes from a to z. The seat's settled
+-- counter grows by z - a, as much as the count. The read counter of the changed seat t is at least the read counter of
+-- the original seat s. If the writer was not stopped, the seat's read counter also grows by z - a. If the run has no
 -- progress board, the optional seats s and t are equal.
 abbrev pub HasWritten : Option Board → ℕ → ℕ → Option Halt → Option BoardSeat → Option BoardSeat → Type 0
 HasWritten None a z stopped s t = t ≡ s

@@ -31,7 +31,7 @@ IsOneOf a b h = (a ≡ Some h) ⊎ ((b ≡ Some h) ⊎ (h ≡ CountFull))
 
 module _ {S L : Type 0} where
   -- After all workers have ended, the caller's thread has all 1,024 parts of the ghost right to use each channel. The
-  -- caller's thread also has each writer's part of the ledger.
+  -- caller's thread also has each writer's part of the ghost count of settled documents.
   abbrev pub IsWhole : ℕ → Ended S L → Type 0
   IsWhole workers e = ((view e.windows).parts ≡ 1024) × ((view e.parcels).parts ≡ 1024) × (e.all.parts ≡ workers)
 

@@ -37,13 +37,13 @@ IsIdle channels board may_stop (Writes w) = IsIdleWriter channels board may_stop
 IsIdle channels board may_stop (Both f w) =
     IsIdleFetcher channels may_stop f × IsIdleWriter channels board may_stop w
 
--- The number of fetchers in a worker.
+-- The number of a worker's fetchers: 1 if the worker fetches parcels, otherwise 0.
 abbrev pub fetchers_in : {S L : Type 0} → Worker S L → ℕ
 fetchers_in (Fetches f) = 1
 fetchers_in (Writes w) = 0
 fetchers_in (Both f w) = 1
 
--- The number of writers in a worker.
+-- The number of a worker's writers: 1 if the worker writes documents, otherwise 0.
 abbrev pub writers_in : {S L : Type 0} → Worker S L → ℕ
 writers_in (Fetches f) = 0
 writers_in (Writes w) = 1
@@ -55,8 +55,8 @@ seat_of (Fetches f) = None
 seat_of (Writes w) = w.seat
 seat_of (Both f w) = w.seat
 
--- A worker that started with the seat `given` shows its writer's progress on the progress board (`WriterShows`). A
--- worker without a writer started without a seat.
+-- A worker that started with the seat `given` shows its writer's progress on the progress board (`WriterShows`). If a
+-- worker has no writer, the optional seat `given` is `None`.
 abbrev pub Shows : {S L : Type 0} → Option Board → Option BoardSeat → Worker S L → Type 0
 Shows board given (Fetches f) = given ≡ None
 Shows board given (Writes w) = WriterShows board given w

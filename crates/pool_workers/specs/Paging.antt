@@ -29,8 +29,7 @@ IsOneLess (Some more) None = ⊥
 IsOneLess (Some more) (Some less) = more ≡ less + 1
 
 -- Each window w of a list is a page of the source's selected feed, and this page begins at w's lower bound. If the plan
--- limits the number of windows, `more` is the number of windows that the run may store in addition to the list's
--- windows.
+-- limits the number of a run's windows, this limit is the length of the list plus `more`.
 abbrev pub HasPages : DatabaseValue → Plan → Option ℕ → List WindowValue → Type 0
 HasPages source plan more windows =
     ((w : WindowValue) → Among w windows → IsNext source plan w) × AllowsMore plan.stop_after (length windows) more

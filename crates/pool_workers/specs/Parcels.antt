@@ -16,7 +16,7 @@ IdleIsEmpty views =
     (port : ℕ) (v : ParcelView) → get_elem? views port ≡ some v → v.parts ≡ 0 → (v.sent ≡ []) × (v.got ≡ [])
 
 module _ {S : Type 0} where
-  -- The parcels in a list of messages. Each parcel is given as a pair: its number, and the count of its documents.
+  -- For each parcel in a list of messages, a pair of the parcel's number and the number of its documents.
   abbrev pub parcels : List (ParcelMessage S) → List (ℕ × ℕ)
   parcels [] = []
   parcels (Parcel number parcel ∷ xs) = (number, length parcel.docs) ∷ parcels xs

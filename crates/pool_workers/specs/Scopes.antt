@@ -34,10 +34,10 @@ pub record IsReady {S L : Type 0} (channels : Channels S) (board : Option Board)
     pub seats : AreSeats board 0 workers o.seats.items
 
 -- The channel rights, ghost counts, seats and results that the caller's thread has after the workers have ended. The
--- caller's thread has the seats (access tokens) of the progress board again. If all workers were started, the caller's
--- thread has all 1,024 parts of the ghost right to use each channel. If all workers were started, the caller's thread
--- also has all parts of the ghost count of settled documents. If all workers were started, the caller's thread knows
--- the workers' counts, and the reasons why workers halted.
+-- caller's thread has all seats (access tokens to the progress board) that it had before it started the workers. If all
+-- workers were started, the caller's thread has all 1,024 parts of the ghost right to use each channel. If all workers
+-- were started, the caller's thread also has all parts of the ghost count of settled documents. If all workers were
+-- started, the caller's thread knows the workers' counts, and the reasons why workers halted.
 pub record HaveEnded {S L : Type 0} (channels : Channels S) (board : Option Board) (may_stop : Place → Type 0)
     (workers : ℕ) (given : List BoardSeat) (ended : Option (Ended S L)) (seats : List BoardSeat) : Type 0 where
   pub window_seat : IfSome ended (λ e. IsSeatAt (sends_on channels.to_fetchers) e.windows)
@@ -84,8 +84,8 @@ MayStart channels board may_stop roles number r =
     (given : List BoardSeat) × (held : List BoardSeat) × (fetchers : ℕ) × (writers : ℕ)
     × IsStarting channels board may_stop roles given number fetchers writers held r
 
--- The caller's thread starts the worker w, whose number is `number`. The state of the caller's thread is r before the
--- start, and t afterwards.
+-- The caller's thread starts the worker w, whose number is `number`. The state of the caller's thread is r before it
+-- starts w, and t after it has started w.
 abbrev pub HasStarted : {S L : Type 0} → Channels S → Option Board → (Place → Type 0) → Roles → ℕ → Rest S L → Rest S L
     → Worker S L → Type 0
 HasStarted channels board may_stop roles number r t w =

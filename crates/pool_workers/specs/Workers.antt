@@ -42,8 +42,8 @@ HasCounted x f =
 
 -- The facts about a writer's counts and received parcels that hold between the handling of two messages. The parcels
 -- `in_hand` are received but not yet settled. If a writer was not stopped, it has counted each received parcel except
--- the parcels `in_hand`. If a writer was not stopped, its share of the ledger is the number of documents in the counted
--- parcels.
+-- the parcels `in_hand`. If a writer was not stopped, its share of the ghost count of settled documents is the number
+-- of documents in the counted parcels.
 abbrev pub WriterKnows : {S L : Type 0} → List (ℕ × ℕ) → Writer S L → Type 0
 WriterKnows in_hand w =
     (view w.parcels ≡ parcel_view 1 [] (view w.parcels).got)
@@ -51,7 +51,7 @@ WriterKnows in_hand w =
     × (w.stopped ≡ None → (w.got + length in_hand ≡ length (view w.parcels).got)
     × (w.share.amount + amounts in_hand ≡ amounts (view w.parcels).got))
 
--- The writer started with the seat `given`. The seat's settled counter has since grown by the number of documents that
+-- Since the writer started with the seat `given`, the seat's settled counter has grown by the number of documents that
 -- the writer settled (`HaveShown`). If the writer was not stopped, the seat's read counter has also grown by the number
 -- of documents that the writer settled.
 abbrev pub WriterShows : {S L : Type 0} → Option Board → Option BoardSeat → Writer S L → Type 0

@@ -37,7 +37,7 @@ module _ (old other t : TreeValue) (tree : IsTree other) (grown : IsGrownBy old 
   known : has other leaf ≡ true
   known = (and_parts _ _ is).0
 
-  -- If a leaf of tree `other` is added, each added edge is an edge of `other`.
+  -- If a leaf of tree `other` and the leaf's ancestors are merged into tree t, each merged edge is an edge of `other`.
   edge_at : (q : RevId) → is_among q revs ≡ true → find rev_cmp q (edges_of revs) ≡ get other.parents q
   edge_at q among = edges_walked other tree leaf.generation leaf q known (omega arith) among
 
@@ -82,7 +82,7 @@ leaf_kept old other t grown l top there =
     ]
 
 -- Adding data of tree `other` to tree `old` gives tree t (`IsGrownBy`). If tree `other` has all leaves of tree `old`,
--- it also has all leaves of the extended tree t.
+-- tree `other` also has all leaves of tree t.
 pub leaves_known : (old other t : TreeValue) → IsGrownBy old other t → ((l : RevId) → is_leaf old l ≡ true → has other l ≡ true) → (l : RevId) → is_leaf t l ≡ true → has other l ≡ true
 leaves_known old other t grown all l top =
     elim (grown.revs l (and_parts _ _ top).0) [
@@ -198,8 +198,8 @@ same_order R S r s (k ∷ xs) h =
     ∙ same_placed R S r k (in_order R xs) (λ y m. h k y (ap (λ b. b || list_any (eq_by_cmp R k) xs) ((eq_by_cmp_equiv r).refl k)) (or_right _ _ (sym (any-in_order r xs y) ∙ m)))
     ∙ ap (placed S k) (same_order R S r s xs (λ a b m n. h a b (or_right _ _ m) (or_right _ _ n))) ∙ sym (in_order-cons s k xs)
 
--- Revision r is in the unsorted list of the leaves of tree t exactly if r is a leaf of t. A list of leaves can be
--- searched for r with the leaf order of any tree u. In every leaf order, only identical revisions compare as equal.
+-- A search for revision r in the unsorted list of tree t's leaves finds r exactly if r is a leaf of t. The search may
+-- use the leaf order of any tree u, because only identical revisions compare as equal in a leaf order.
 any_leaf : (u t : TreeValue) (r : RevId) → list_any (eq_by_cmp (leaf_cmp u) r) (filter (is_leaf t) (keys t.origins)) ≡ is_leaf t r
 any_leaf u t r =
     let all = filter (is_leaf t) (keys t.origins) in

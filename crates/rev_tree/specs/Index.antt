@@ -30,8 +30,7 @@ falls (r ∷ []) = true
 falls (r ∷ (s ∷ revs)) = nat_eq r.generation (s.generation + 1) && falls (s ∷ revs)
 
 -- The index of a tree whose nodes have the revisions `revs`: a map from the revisions' hashes to the nodes' positions.
--- The index of a tree's nodes is empty if the nodes are few enough to be scanned. If the generations fall by one from
--- each revision in `revs` to the next, the index is empty, too. The generation of a node's revision then determines the
--- node's position.
+-- The index of a tree's nodes is empty if the nodes are few enough to be scanned. The index is also empty if
+-- generations fall by one from each revision in `revs` to the next, and so determine the nodes' positions.
 abbrev pub index_for : List RevId → List (ℕ × ℕ)
 index_for revs = if nat_lt MOST_WALKED (length revs) && not (falls revs) then noted_from [] 0 revs else []

@@ -38,7 +38,7 @@ place_of nodes r = finmap.find rev_cmp r (places_from 0 (revs_in nodes))
 abbrev pub node_of : List NodeValue → RevId → Option NodeValue
 node_of nodes r = finmap.find rev_cmp r (map (λ n. (n.rev, n)) nodes)
 
--- The revision at position i of a list, or `None` if no position is given.
+-- The revision at position i of a list, or `None` if the position is `None` or outside the list.
 abbrev pub rev_at : List RevId → Option ℕ → Option RevId
 rev_at revs None = None
 rev_at revs (Some i) = slice_get revs i

@@ -36,7 +36,7 @@ abbrev pub origin_at : OriginsValue → ℕ → Origin
 origin_at (one o) i = o
 origin_at (each os capacity) i = get_or os i no_origin
 
--- The origins belong to a list of n nodes.
+-- The origins are one origin of all nodes, or a list of n origins, one for each of n nodes.
 abbrev pub IsOfNodes : OriginsValue → ℕ → Type 0
 IsOfNodes (one o) n = Unit {0}
 IsOfNodes (each os capacity) n = length os ≡ n

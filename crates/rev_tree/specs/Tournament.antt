@@ -29,8 +29,8 @@ IsBefore x None = Unit {0}
 IsBefore None (Some b) = ⊥
 IsBefore (Some a) (Some b) = is_lt (key_cmp b a) ≡ false
 
--- The key of the node that a stored number names. A stored number is the node's index plus 1. If the stored number is
--- 0, there is no node, and the key is `None`.
+-- The key of the node that a stored number names. The comparison tree stores a node as a number, the node's index plus
+-- 1. If the stored number is 0, there is no node, and the key is `None`.
 abbrev pub entry : List NodeValue → ℕ → Option Key
 entry nodes zero = None
 entry nodes (suc p) = option_map key_of (slice_get nodes p)
@@ -58,8 +58,8 @@ pub record IsHeld (nodes : List NodeValue) (winners : List ℕ) (entered : ℕ) 
   pub contents : (i p : ℕ) (n : NodeValue) → get_or winners i 0 ≡ suc p → slice_get nodes p ≡ Some n → is_some n.content ≡ true
   pub leaves : (j : ℕ) (n : NodeValue) → j < entered → slice_get nodes j ≡ Some n → n.has_child ≡ false → is_some n.content ≡ true
 
--- The stored winner of a comparison does not lose to either of the comparison's two leaves. Only the comparison with
--- index x may have a stored winner that loses to one of the two leaves.
+-- The stored winner of each comparison, except possibly the comparison with index x, does not lose to either of the two
+-- compared leaves.
 pub record IsPlayed (nodes : List NodeValue) (winners : List ℕ) (entered x : ℕ) : Type 0 where
   pub held : IsHeld nodes winners entered
   pub ordered : (k : ℕ) → 2 ≤ k → k / 2 < length winners → (k / 2 ≡ x → ⊥) → IsBefore (entry nodes (get_or winners (k / 2) 0)) (under nodes winners entered k)

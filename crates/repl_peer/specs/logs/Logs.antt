@@ -35,8 +35,8 @@ as_log_answers (Ok done) = Ok done
 as_log_answers (Err fault) = Err (refused_by_log fault)
 
 -- The result of storing an entry in the source's log, if no allocation fails. The entry's life must be the current life
--- of the source's database, a number that changes when the database is restored. The entry must not lower the recorded
--- sequence of the entry's session.
+-- of the source's database, a number that changes when the database is restored. If the log has an entry of the same
+-- session, the new entry's recorded sequence must be at least the stored entry's.
 abbrev pub put_entry_answer : PeerValue → RepId → EntryValue → Result (Unit {0}) TargetFault
 put_entry_answer p rep e =
     if e.life == p.db.life then as_log_answers (put_answer_in p.outgoing rep e) else Err (faults.OtherLife p.db.life)

@@ -8,8 +8,8 @@ use Rattle.repl_peer.specs.declared.peer.ghost_revs.Came.{Came}
 use Rattle.repl_peer.specs.declared.peer.ghost_revs.Came.TheVariants as came
 
 -- The revisions of a write, which depend on the kind of the write. A write of a document has the document's complete
--- ancestry. An edit has the new revision, and the new revision's parent (if any). A copied write has the revisions of
--- the original write.
+-- ancestry. An edit has the new revision, and the new revision's parent (if any). A copy of a write (`Written::copy`)
+-- has the revisions of the original write.
 abbrev pub came_revs : Came → List RevId
 came_revs (came.Whole revs) = revs.now
 came_revs (came.Edit rev parent) = rev ∷ option_to_list parent

@@ -68,8 +68,8 @@ abbrev pub first_unknown : (Id → RevId → Bool) → List RowValue → Option 
 first_unknown known [] = None
 first_unknown known (row ∷ rows) = option_or (unknown_in known row) (first_unknown known rows)
 
--- The first leaf that peer p does not cover, in the order of the given feed rows. Peer p covers a leaf that is in p's
--- tree of the document, or in an ancestry of the document in p's ledgers. Peer p covers no other leaf.
+-- The first leaf that peer p does not cover, in the order of the given feed rows. A leaf is covered exactly if it is in
+-- p's tree of the document, or in an ancestry of the document in p's ledgers.
 abbrev pub first_uncovered : PeerValue → List RowValue → Option Leaf
 first_uncovered p rows = first_unknown (covers p) rows
 

@@ -23,7 +23,8 @@ window_bounds ws = map (λ w. (w.lo, w.hi)) ws
 -- which windows are done.
 pub record LawfulStore (f : FrontValue) (ws : List WindowValue) (n goal : ℕ) : Type 0 where
   -- A session's windows are consecutive from the session's start, end at or below the goal, and have rows with rising
-  -- sequences. The front of a session (which says which windows are done) has the bounds of the session's windows.
+  -- sequences. The front of a session lists the lower and upper bound of each of the session's windows, in the order of
+  -- the windows.
   pub front : IsFront f
   pub bounds : window_bounds ws ≡ bounds f
   pub within : end_of f ≤ goal

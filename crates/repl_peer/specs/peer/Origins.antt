@@ -47,8 +47,8 @@ pub record IsFed (p : PeerValue) (id : Id) (r : RevId) (session : SessionId) (se
 -- Peer p has the origin of revision r of document `id`: the local write, or the session, from which the revision came.
 -- An origin is a local write, or a session and a sequence of the session's source. If the origin is a local write, peer
 -- p has the write, and the write has revision r (`IsLocal`). If the origin is a session and a sequence, peer p has the
--- session, with a row of the document at this sequence (`IsFed`). The origin's session also has an arrival (a stored
--- document) with revision r.
+-- session, with a row of the document at this sequence (`IsFed`). If the origin is a session and a sequence, the
+-- session also has an arrival (a stored document) with revision r.
 abbrev pub ComesFrom : PeerValue → Id → RevId → Origin → Type 0
 ComesFrom p id r (Local n) = IsLocal p id r n
 ComesFrom p id r (Feed session seq) = IsFed p id r session seq

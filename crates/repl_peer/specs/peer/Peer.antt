@@ -3,10 +3,9 @@
 -- A peer is a database with the state that replication needs. A target has a session for each replication into the
 -- target. A session stores the windows of the source's changes feed, and which of these windows are done. For each
 -- received document, a session records whether the target stored the document (an arrival) or refused the document (a
--- ledger row). The arrivals and ledger rows of a session can be compared with the revisions in the target's trees. A
--- source has a log for each replication from the source, with the sequence that the target recorded in each session.
--- The common checkpoint of the next replication is read from the logs of both sides. A peer also stores its local
--- writes, so that each revision of a tree has an origin.
+-- ledger row). The target's trees have the revisions of all arrivals. A source has a log for each replication from the
+-- source, with the sequence that the target recorded in each session. The common checkpoint of the next replication is
+-- read from the logs of both sides. A peer also stores its local writes, so that each revision of a tree has an origin.
 use Rattle.std.specs.Prelude.{ℕ, ◌==◌, Bool, nat_le, if◌then◌else◌, List, [], map, Option, Result, Ok, Err}
 use Rattle.std.specs.List.{find, list_any}
 use Rattle.rev_core.specs.Rev.{RevId}

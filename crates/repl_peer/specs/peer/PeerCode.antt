@@ -31,7 +31,7 @@ coded_written =
 
 -- The reason why a document is in a ledger, encoded as data. If the document contradicts the tree, the encoded reason
 -- has three revisions: a child, the child's parent in the tree, and the child's parent in the document. If the write
--- filter rejected the document, the encoded reason is the unit value.
+-- filter rejected the document, the reason is encoded as the unit value `tt`.
 abbrev reason_parts : Reason → Unit {0} ⊎ (RevId × (RevId × RevId))
 reason_parts Filtered = inl tt
 reason_parts (Contradicting child known given) = inr (child, (known, given))

@@ -10,14 +10,13 @@ use Rattle.doc_json.specs.Document.{Document}
 use Rattle.couch_base.specs.Database.{Id}
 use Rattle.repl_peer.specs.declared.session.ledger_index.LedgerIndex.{LedgerIndex}
 
--- Whether revision r is in the ancestry of the earliest document with the id `id`. The earliest document was added to
--- the index before the other documents with this id.
+-- Whether revision r is in the ancestry of the first document with the id `id` that was added to the index.
 abbrev pub is_in_first : LedgerIndex → Id → RevId → Bool
 is_in_first index id r =
     option_map_or (λ doc. is_among r (arc_value {X = Document} doc).ancestry) (lookup (bytes_eq id) index.first.entries) false
 
--- Whether revision r is in the ancestry of a later document with the id `id`. A later document was added to the index
--- after another document with the same id.
+-- Whether revision r is in the ancestry of a document with the id `id` that was added to the index after the first such
+-- document.
 abbrev pub is_in_later : LedgerIndex → Id → RevId → Bool
 is_in_later index id r = option_map_or (λ revs. is_among r revs.keys) (lookup (bytes_eq id) index.later.entries) false
 

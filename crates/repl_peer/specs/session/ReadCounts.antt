@@ -16,7 +16,8 @@ abbrev pub read_in : List SessionValue → SessionId → ℕ
 read_in sessions id = read_of (session_in sessions id)
 
 -- The number that is added to a session's count of read documents when the session settles a parcel of n documents. The
--- count grows by n if all n documents were settled, by m if settling stopped after m documents, and otherwise by 0.
+-- added number is n if all n documents were settled, m if settling stopped after m documents, and 0 after any other
+-- error.
 abbrev pub taken : Result Settled TargetFault → ℕ → ℕ
 taken (Ok settled) n = n
 taken (Err (faults.Uncovered seq id rev)) n = n

@@ -14,8 +14,8 @@ use Rattle.repl_peer.specs.declared.session.beginning.Beginning.{Beginning}
 use Rattle.repl_peer.specs.declared.fault.TargetFault.{TargetFault}
 use Rattle.repl_peer.specs.declared.fault.TargetFault.TheVariants as faults
 
--- A peer's sessions after the function `change` has changed one of them, the session s of the optional argument `Some
--- s`. If the optional argument is `None`, the peer's sessions are unchanged.
+-- A peer's sessions after the function `change` has changed the session that a lookup found. If the lookup found no
+-- session (`None`), the peer's sessions are unchanged.
 abbrev pub changed : (SessionValue → SessionValue) → List SessionValue → Option SessionValue → List SessionValue
 changed change sessions None = sessions
 changed change sessions (Some s) = with_session sessions (change s)
@@ -49,8 +49,8 @@ recorded_by sessions rep (Some base) = recorded_of (base_in sessions rep base)
 abbrev pub in_ledgers : List SessionValue → Id → RevId → Bool
 in_ledgers sessions id r = list_any (λ s. in_ledger s.ledger id r) sessions
 
--- The result of a call, with the result's log entry in the form `EntryValue`. The program itself stores the log entry
--- in the form `Entry`.
+-- The result of a call that returns a log entry, after converting the entry from the program's type `Entry` to the
+-- specification's type `EntryValue`.
 abbrev pub entry_value : Result Entry TargetFault → Result EntryValue TargetFault
 entry_value (Ok e) = Ok (value_of e)
 entry_value (Err fault) = Err fault

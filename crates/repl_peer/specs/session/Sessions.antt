@@ -28,8 +28,8 @@ refused_by_front front_faults.NoSuchWindow = faults.ForeignParcel
 refused_by_front front_faults.AlreadyDone = faults.AlreadyDone
 refused_by_front front_faults.Memory = faults.Memory
 
--- The state of peer p after applying the function `change` to the found session. If no session was found, peer p is
--- unchanged.
+-- The state of peer p after the function `change` has changed the session that a lookup found. If the lookup found no
+-- session (`None`), peer p is unchanged.
 abbrev pub on_found : PeerValue → (SessionValue → SessionValue) → Option SessionValue → PeerValue
 on_found p change None = p
 on_found p change (Some s) = record p { sessions = with_session p.sessions (change s) }
