@@ -4,8 +4,11 @@ use Rattle.std.specs.Prelude.{◌≡◌, ℕ, List, Some}
 use Rattle.doc_json.specs.Chosen.{Choice}
 use Rattle.couch_base.specs.Lists.{Among}
 use Rattle.couch_base.specs.Database.{LawfulDatabase}
+use Rattle.couch_base.specs.Feed.{RowValue, chosen_feed}
 use Rattle.repl_peer.specs.peer.Peer.{PeerValue}
 use Rattle.repl_peer.specs.peer.Law.{Lawful}
+use Rattle.repl_peer.specs.peer.Trusted.{IsAccounted}
+use Rattle.rev_core.specs.Rev.{RevId}
 use Rattle.repl_peer.specs.peer.Backups.{BackupValue}
 use Rattle.repl_target.specs.Audit.{CoversFeed}
 use Rattle.repl_network.specs.Network.{IsNetwork}
@@ -42,3 +45,11 @@ abbrev pub CoversUpTo : State → List ℕ → List ℕ → Choice → ℕ → T
 CoversUpTo s source target chosen n =
     (p : PeerValue) × (q : PeerValue) × (peer_at s source ≡ Some p) × (peer_at s target ≡ Some q)
     × (n ≡ p.db.update_seq) × CoversFeed p q chosen n
+
+-- The database `target` accounts for each leaf of the source's selected feed at or below sequence n. The leaf is in the
+-- target's tree of the document, or in the ancestry of a document that the target has rightly refused (`IsAccounted`).
+abbrev pub AccountsUpTo : State → List ℕ → List ℕ → Choice → ℕ → Type 0
+AccountsUpTo s source target chosen n =
+    (p : PeerValue) × (q : PeerValue) × (peer_at s source ≡ Some p) × (peer_at s target ≡ Some q)
+    × ((row : RowValue) → Among row (chosen_feed chosen p.db 0 n) → (leaf : RevId) → Among leaf row.leaves
+    → IsAccounted (deny_refuses s.program.deny) q row.id leaf)

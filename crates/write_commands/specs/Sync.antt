@@ -1,16 +1,22 @@
 -- Defines the command `sync`, as specified in docs/PROFILE.md, "Command lines" and "Answers".
-use Rattle.std.specs.Prelude.{◌≡◌, ◌⊎◌, ℕ, false, List, [], ◌∷◌, ◌++◌, codes, Option, None, unwrap_or, Result, Ok, Err}
+use Rattle.std.specs.Prelude.{◌≡◌, ◌⊎◌, ℕ, true, false, Some, List, [], ◌∷◌, ◌++◌, codes, Option, None, unwrap_or, Result, Ok, Err}
 use Rattle.serde_json.specs.Data.{Data}
 use Rattle.serde_json.specs.Find.{as_bool}
 use Rattle.script_engine.specs.Serving.{Told, Answering, MayTell}
 use Rattle.script_databases.specs.Consistent.{IsConsistent}
-use Rattle.script_databases.specs.Databases.{State}
+use Rattle.script_databases.specs.Databases.{State, peer_at}
 use Rattle.script_databases.specs.Refusals.{name_of}
 use Rattle.script_databases.specs.declared.refusal.Refusal.{Refusal}
 use Rattle.rev_core.specs.Checks.{◌>>=◌}
 use Rattle.command_api.specs.Checks.{needed}
 use Rattle.command_api.specs.Members.{as_texts, as_uuid, as_whole, name_at, optional, if_only}
-use Rattle.write_commands.specs.Replicate.{ReplicateAsk, ReportsReplication, IsCovered, MayFail, replicate_asked}
+use Rattle.write_commands.specs.Replicate.{ReplicateAsk, ReportsReplication, IsCoveredBy, IsDone, MayFail, replicate_asked}
+use Rattle.write_commands.specs.declared.replicate.Ending.{Ending}
+use Rattle.rev_tree.specs.declared.origin.SessionId.{SessionId}
+use Rattle.doc_json.specs.Chosen.{Choice, is_chosen}
+use Rattle.couch_base.specs.Database.{Id}
+use Rattle.repl_peer.specs.peer.Peer.{PeerValue}
+use Rattle.repl_target.specs.replication.Sync.{HasRefusedNone, Meets}
 use Rattle.write_commands.specs.declared.replicate.Options.{Options}
 use Rattle.write_commands.specs.declared.sync.BothWays.{BothWays}
 use Rattle.write_commands.specs.declared.sync.Shared.{Shared}
@@ -94,12 +100,26 @@ Syncs old ask told new =
 
 -- ---- the guarantee of `sync`, as specified in docs/PROFILE.md, "Tied databases"
 
--- Each direction of a successful `sync` line has the guarantee of a `replicate` line (`IsCovered`). After the forward
--- direction and before the reverse direction of a `sync` line, all databases are consistent. If a `sync` line fails,
--- `MayFail` lists its error for the forward or the reverse direction.
-abbrev pub IsMet : State → SyncAsk → Told → Type 0
-IsMet new ask (Ok text) =
-    (mid : State) × (first : List ℕ) × (second : List ℕ) × (text ≡ first ++ second) × IsConsistent mid
-    × IsCovered mid ask.there (Ok first) × IsCovered new ask.back (Ok second)
-IsMet new ask (Err name) =
+-- How a `sync` line from state `old` to state `new` changes a document that both selections contain and that neither
+-- database refused, as specified in docs/PROFILE.md, "Both ways" (`Meets`).
+abbrev pub MeetsAfter : State → State → SyncAsk → Choice → Choice → Type 0
+MeetsAfter old new ask there back =
+    (a : PeerValue) (b : PeerValue) (a' : PeerValue) (b' : PeerValue)
+    → peer_at old ask.there.source ≡ Some a → peer_at old ask.there.target ≡ Some b
+    → peer_at new ask.there.source ≡ Some a' → peer_at new ask.there.target ≡ Some b'
+    → (id : Id) → HasRefusedNone a' id → HasRefusedNone b' id
+    → is_chosen there id ≡ true → is_chosen back id ≡ true → Meets a.db b.db a'.db b'.db id
+
+-- The guarantee for a `sync` line. Between the two directions of `sync`, all databases are consistent, and each
+-- direction has the guarantee of a `replicate` line (`IsCoveredBy`). If both directions printed `session`, both
+-- databases agree about each document that no session refused (`MeetsAfter`). A `sync` line fails only with an error
+-- with which one of its directions may fail.
+abbrev pub IsMet : State → State → SyncAsk → Told → Type 0
+IsMet old new ask (Ok text) =
+    (mid : State) × (first : List ℕ) × (second : List ℕ) × (session : SessionId) × (session' : SessionId)
+    × (ending : Ending) × (ending' : Ending) × (chosen : Choice) × (chosen' : Choice)
+    × (text ≡ first ++ second) × IsConsistent mid
+    × IsCoveredBy mid ask.there first session ending chosen × IsCoveredBy new ask.back second session' ending' chosen'
+    × (IsDone ending → IsDone ending' → MeetsAfter old new ask chosen chosen')
+IsMet old new ask (Err name) =
     (refusal : Refusal) × (name ≡ name_of refusal) × (MayFail ask.there refusal ⊎ MayFail ask.back refusal)
