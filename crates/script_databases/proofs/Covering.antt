@@ -4,7 +4,8 @@ use Rattle.proof_prelude.proofs.{◌≡◌, ◌≢◌, inl, inr, ℕ, true, same
 use Rattle.doc_json.specs.{Choice, is_chosen}
 use Rattle.couch_base.specs.{DatabaseValue, Id, LawfulDatabase}
 use Rattle.repl_peer.specs.{TargetFault, PeerValue, Report}
-use Rattle.repl_target.specs.{Plan, IsExpected, IsTiedPair, HasRefusedNone, Leaves, Meets, CoversFeed, Replicates, ended}
+use Rattle.repl_target.specs.{Plan, IsExpected, IsTiedPair, HasRefusedNone, Leaves, CoversFeed, Replicates, ended}
+use Rattle.repl_target.specs.replication.Sync.{Meets}
 use Rattle.repl_target.proofs.{both_meet, replicates_leaves}
 use Rattle.repl_peer.proofs.lemmas.peer.TrustedPeers.{covered_accounted}
 use Rattle.repl_pool.proofs.{run_leaves}
