@@ -1,17 +1,16 @@
 -- A successful replication between two databases brings the source's selected feed to the target, and a failed one fails
 -- with an expected error.
-use Rattle.proof_prelude.proofs.{◌≡◌, ◌≢◌, inl, inr, ℕ, true, same_Some, List, Result, Ok, Err, refl, sym, ap, subst, ◌∙◌, Some, IfOk, IfOk-weaker, IfErr}
-use Rattle.doc_json.specs.{Choice, is_chosen}
-use Rattle.couch_base.specs.{DatabaseValue, Id, LawfulDatabase}
+use Rattle.proof_prelude.proofs.{◌≡◌, ◌≢◌, inl, inr, ℕ, same_Some, List, Result, Ok, Err, refl, sym, ap, subst, ◌∙◌, Some, IfOk, IfOk-weaker, IfErr}
+use Rattle.doc_json.specs.{Choice}
+use Rattle.couch_base.specs.{DatabaseValue, LawfulDatabase}
 use Rattle.repl_peer.specs.{TargetFault, PeerValue, Report}
-use Rattle.repl_target.specs.{Plan, IsExpected, IsTiedPair, HasRefusedNone, Leaves, CoversFeed, Replicates, ended}
-use Rattle.repl_target.specs.replication.Sync.{Meets}
+use Rattle.repl_target.specs.{Plan, IsExpected, IsTiedPair, Leaves, CoversFeed, Replicates, ended}
 use Rattle.repl_target.proofs.{both_meet, replicates_leaves}
 use Rattle.repl_peer.proofs.lemmas.peer.TrustedPeers.{covered_accounted}
 use Rattle.repl_pool.proofs.{run_leaves}
 use Rattle.pool_workers.specs.{PoolFault}
 use Rattle.repl_pool.specs.{early_answer, EarlyOrLate, IsExpectedRun, RunsOn}
-use Rattle.script_databases.specs.{State, peer_at, with_peer, with_both, Nowhere, deny_refuses, ReplicatesAlone, ReplicatesBetween, ReplicatesByPool, ReplicatesWatched, unwatched, AccountsUpTo, CoversUpTo, IsConsistent, Watched}
+use Rattle.script_databases.specs.{State, peer_at, with_peer, with_both, Nowhere, deny_refuses, ReplicatesAlone, ReplicatesBetween, ReplicatesByPool, ReplicatesWatched, unwatched, AccountsUpTo, CoversUpTo, IsConsistent, MeetsAfter, Watched}
 use Rattle.script_databases.proofs.Networks.{here, elsewhere, tied_pair}
 use Rattle.script_databases.proofs.ReplicationLemmas.{plan_apart, run_apart}
 use Rattle.script_databases.proofs.Tables.{names_apart}
@@ -110,21 +109,23 @@ module _ (old : State) (h : IsConsistent old) (a b : List ℕ) (s t : PeerValue)
 pub accounts : (s : State) → IsConsistent s → (a b : List ℕ) (c : Choice) (n : ℕ) → CoversUpTo s a b c n → AccountsUpTo s a b c n
 accounts s h a b c n (p, q, at, at', is, covers) = (p, q, at, at', λ row m leaf k. covered_accounted (deny_refuses s.program.deny) q (h.1 b q at').0.sessions row.id leaf (covers row m leaf k))
 
--- a second replication in the other direction, after a first one
-pub brings_meet : (old mid new : State) → IsConsistent old → IsConsistent mid → IsConsistent new → (a b : List ℕ) (s t x y : PeerValue) → peer_at old a ≡ Some s → peer_at old b ≡ Some t → peer_at mid b ≡ Some x → peer_at mid a ≡ Some y
-    → (there back : Plan) (n k : ℕ) (first : Brings old a b s t there n mid) (second : Brings mid b a x y back k new) → (id : Id) → HasRefusedNone second.target id → HasRefusedNone second.source id → is_chosen there.chosen id ≡ true → is_chosen back.chosen id ≡ true
-    → Meets s.db t.db second.target.db second.source.db id
-brings_meet old mid new h h' h'' a b s t x y at_s at_t at_x at_y there back n k first second id =
+-- a second replication in the other direction, after a first one; `begun` and `begun'` are the states that the two start in
+pub brings_meet : (old begun mid begun' new : State) → IsConsistent old → IsConsistent mid → IsConsistent new → (a b : List ℕ) (s t x y : PeerValue) → peer_at old a ≡ Some s → peer_at old b ≡ Some t → peer_at mid b ≡ Some x → peer_at mid a ≡ Some y
+    → (there back : Plan) (n k : ℕ) → Brings begun a b s t there n mid → Brings begun' b a x y back k new → MeetsAfter old new a b there.chosen back.chosen
+brings_meet old begun mid begun' new h h' h'' a b s t x y at_s at_t at_x at_y there back n k first second =
     let two = names_apart (peer_at old) (λ p. p.db.uuid) a b s t at_s at_t first.apart in
-    let is : x ≡ first.target = same_Some x first.target (sym at_x ∙ ap (λ st. peer_at st b) first.state ∙ here (with_peer old a first.source) b first.target) in
-    let is' : y ≡ first.source = same_Some y first.source (sym at_y ∙ ap (λ st. peer_at st a) first.state ∙ elsewhere (with_peer old a first.source) b first.target a two ∙ here old a first.source) in
-    let refuses = deny_refuses mid.program.deny in
+    let is : x ≡ first.target = same_Some x first.target (sym at_x ∙ ap (λ st. peer_at st b) first.state ∙ here (with_peer begun a first.source) b first.target) in
+    let is' : y ≡ first.source = same_Some y first.source (sym at_y ∙ ap (λ st. peer_at st a) first.state ∙ elsewhere (with_peer begun a first.source) b first.target a two ∙ here begun a first.source) in
+    let refuses = deny_refuses begun'.program.deny in
     let leaves = subst (λ q. Leaves refuses first.target q back second.source second.target) is' (subst (λ p. Leaves refuses p y back second.source second.target) is second.leaves) in
     let whole = subst (λ (p : PeerValue). CoversFeed p second.target back.chosen p.db.update_seq) is second.whole in
     let law = subst (λ (p : PeerValue). LawfulDatabase p.db) is (h'.1 b x at_x).1 in
-    let last = (h''.1 a second.target (ap (λ st. peer_at st a) second.state ∙ here (with_peer mid b second.source) a second.target)).1 in
-    both_meet refuses (deny_refuses old.program.deny) s t first.source first.target second.target second.source there back (h.1 a s at_s).1 law last first.leaves leaves (λ _. first.whole) (λ _. whole)
-    (tied_pair old h a b s t at_s at_t there.chosen) (tied_pair old h b a t s at_t at_s back.chosen) id
+    let at_a = ap (λ st. peer_at st a) second.state ∙ here (with_peer begun' b second.source) a second.target in
+    let at_b = ap (λ st. peer_at st b) second.state ∙ elsewhere (with_peer begun' b second.source) a second.target b (λ e. two (sym e)) ∙ here begun' b second.source in
+    let meet =
+    both_meet refuses (deny_refuses begun.program.deny) s t first.source first.target second.target second.source there back (h.1 a s at_s).1 law (h''.1 a second.target at_a).1 first.leaves leaves (λ _. first.whole) (λ _. whole)
+    (tied_pair old h a b s t at_s at_t there.chosen) (tied_pair old h b a t s at_t at_s back.chosen) in
+    (s, t, second.target, second.source, at_s, at_t, at_a, at_b, meet)
 
 -- ---- between two names
 
