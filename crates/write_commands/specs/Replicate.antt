@@ -235,10 +235,14 @@ ReportsReplication old ask told new = ReplicatesFound old ask (both_of old ask) 
 -- ---- the guarantee of `replicate`, as specified in docs/PROFILE.md, "Tied databases"
 
 -- The guarantee for a session that reached its goal and recorded a sequence. The recorded sequence is the source's
--- update sequence, and the target covers each leaf of the source's selected feed.
+-- update sequence. Each leaf of the source's selected feed is in the target's tree of the leaf's document, or in the
+-- ancestry of a rightly refused document.
 abbrev pub CoversIfDone : State → List ℕ → List ℕ → Choice → Ending → Type 0
-CoversIfDone s source target chosen (Done report) = CoversUpTo s source target chosen report.recorded
-CoversIfDone s source target chosen (Shown watched) = CoversUpTo s source target chosen watched.report.recorded
+CoversIfDone s source target chosen (Done report) =
+    CoversUpTo s source target chosen report.recorded × AccountsUpTo s source target chosen report.recorded
+CoversIfDone s source target chosen (Shown watched) =
+    CoversUpTo s source target chosen watched.report.recorded
+    × AccountsUpTo s source target chosen watched.report.recorded
 CoversIfDone s source target chosen (Stopped low_water) = Unit {0}
 
 -- With one thread, a session stops below its goal only if the line has `stop_after`.

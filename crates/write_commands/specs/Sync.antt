@@ -1,10 +1,10 @@
 -- Defines the command `sync`, as specified in docs/PROFILE.md, "Command lines" and "Answers".
-use Rattle.std.specs.Prelude.{◌≡◌, ◌⊎◌, ℕ, true, false, Some, List, [], ◌∷◌, ◌++◌, codes, Option, None, unwrap_or, Result, Ok, Err}
+use Rattle.std.specs.Prelude.{◌≡◌, ◌⊎◌, ℕ, false, List, [], ◌∷◌, ◌++◌, codes, Option, None, unwrap_or, Result, Ok, Err}
 use Rattle.serde_json.specs.Data.{Data}
 use Rattle.serde_json.specs.Find.{as_bool}
 use Rattle.script_engine.specs.Serving.{Told, Answering, MayTell}
-use Rattle.script_databases.specs.Consistent.{IsConsistent}
-use Rattle.script_databases.specs.Databases.{State, peer_at}
+use Rattle.script_databases.specs.Consistent.{IsConsistent, MeetsAfter}
+use Rattle.script_databases.specs.Databases.{State}
 use Rattle.script_databases.specs.Refusals.{name_of}
 use Rattle.script_databases.specs.declared.refusal.Refusal.{Refusal}
 use Rattle.rev_core.specs.Checks.{◌>>=◌}
@@ -13,10 +13,7 @@ use Rattle.command_api.specs.Members.{as_texts, as_uuid, as_whole, name_at, opti
 use Rattle.write_commands.specs.Replicate.{ReplicateAsk, ReportsReplication, IsCoveredBy, IsDone, MayFail, replicate_asked}
 use Rattle.write_commands.specs.declared.replicate.Ending.{Ending}
 use Rattle.rev_tree.specs.declared.origin.SessionId.{SessionId}
-use Rattle.doc_json.specs.Chosen.{Choice, is_chosen}
-use Rattle.couch_base.specs.Database.{Id}
-use Rattle.repl_peer.specs.peer.Peer.{PeerValue}
-use Rattle.repl_target.specs.replication.Sync.{HasRefusedNone, Meets}
+use Rattle.doc_json.specs.Chosen.{Choice}
 use Rattle.write_commands.specs.declared.replicate.Options.{Options}
 use Rattle.write_commands.specs.declared.sync.BothWays.{BothWays}
 use Rattle.write_commands.specs.declared.sync.Shared.{Shared}
@@ -100,26 +97,16 @@ Syncs old ask told new =
 
 -- ---- the guarantee of `sync`, as specified in docs/PROFILE.md, "Tied databases"
 
--- How a `sync` line from state `old` to state `new` changes a document that both selections contain and that neither
--- database refused, as specified in docs/PROFILE.md, "Both ways" (`Meets`).
-abbrev pub MeetsAfter : State → State → SyncAsk → Choice → Choice → Type 0
-MeetsAfter old new ask there back =
-    (a : PeerValue) (b : PeerValue) (a' : PeerValue) (b' : PeerValue)
-    → peer_at old ask.there.source ≡ Some a → peer_at old ask.there.target ≡ Some b
-    → peer_at new ask.there.source ≡ Some a' → peer_at new ask.there.target ≡ Some b'
-    → (id : Id) → HasRefusedNone a' id → HasRefusedNone b' id
-    → is_chosen there id ≡ true → is_chosen back id ≡ true → Meets a.db b.db a'.db b'.db id
-
--- The guarantee for a `sync` line. Between the two directions of `sync`, all databases are consistent, and each
--- direction has the guarantee of a `replicate` line (`IsCoveredBy`). If both directions printed `session`, both
--- databases agree about each document that no session refused (`MeetsAfter`). A `sync` line fails only with an error
--- with which one of its directions may fail.
+-- The guarantee for a `sync` line. If a `sync` line succeeds, each direction has the guarantee of a `replicate` line
+-- (`IsCoveredBy`), and all databases are consistent after the forward and before the reverse direction. If both
+-- directions printed `session`, the two databases have the guarantees of `MeetsAfter`. If a `sync` line fails, `MayFail`
+-- lists its error for the forward or the reverse direction.
 abbrev pub IsMet : State → State → SyncAsk → Told → Type 0
 IsMet old new ask (Ok text) =
     (mid : State) × (first : List ℕ) × (second : List ℕ) × (session : SessionId) × (session' : SessionId)
     × (ending : Ending) × (ending' : Ending) × (chosen : Choice) × (chosen' : Choice)
     × (text ≡ first ++ second) × IsConsistent mid
     × IsCoveredBy mid ask.there first session ending chosen × IsCoveredBy new ask.back second session' ending' chosen'
-    × (IsDone ending → IsDone ending' → MeetsAfter old new ask chosen chosen')
+    × (IsDone ending → IsDone ending' → MeetsAfter old new ask.there.source ask.there.target chosen chosen')
 IsMet old new ask (Err name) =
     (refusal : Refusal) × (name ≡ name_of refusal) × (MayFail ask.there refusal ⊎ MayFail ask.back refusal)
