@@ -1,15 +1,34 @@
 -- Each direction of `sync` has its guarantee, and both together have theirs.
-use Rattle.proof_prelude.proofs.{◌≡◌, List, ℕ, Ok, Err, inl, inr, refl, sym, ap, subst, ◌∙◌}
+use Rattle.proof_prelude.proofs.{◌≡◌, List, ℕ, Some, None, codes, Ok, Err, inl, inr, refl, sym, ap, subst, ◌∙◌, cond_both}
+use Rattle.serde_json.specs.Data.{Data}
 use Rattle.script_engine.specs.{Told, MayTell, in_full, gave_up, served_only}
 use Rattle.script_databases.specs.{IsConsistent, MeetsAfter, State, peer_at}
-use Rattle.script_databases.proofs.{Brings, brings_meet}
+use Rattle.command_api.specs.Checks.{needed}
+use Rattle.command_api.specs.Members.{as_texts, as_uuid, has_only, if_only, name_at, optional}
+use Rattle.command_api.proofs.{bound}
+use Rattle.script_databases.proofs.{Brings, brings_meet, same_Ok}
 use Rattle.write_commands.specs.{ReplicateAsk, ReportsReplication, IsDone, SyncAsk, Syncs, IsMet, with_session}
+use Rattle.write_commands.specs.Sync.{shared_in, sync_in, sync_keys, way, way_options}
 use Rattle.script_databases.specs.declared.refusal.Refusal.TheVariants as why
 use Rattle.write_commands.proofs.trust.Replicate.{Brought, IsBrought, brings_done, covered_by, may_memory, reports_brought}
 
 -- the second direction is between the same two databases
 abbrev pub AreTurned : SyncAsk → Type 0
 AreTurned ask = (ask.back.source ≡ ask.there.target) × (ask.back.target ≡ ask.there.source)
+
+only_turned : (d : Data) (x ask : SyncAsk) → AreTurned x → needed (if_only sync_keys d x) ≡ Ok ask → AreTurned ask
+only_turned d x ask h e = cond_both (has_only sync_keys d) (Some x) None (λ o. needed o ≡ Ok ask → AreTurned ask) (λ _ k. subst AreTurned (same_Ok x ask k) h) (λ _ k. cc) e
+
+-- a line has one pair of databases
+pub sync_turned : (d : Data) (ask : SyncAsk) → sync_in d ≡ Ok ask → AreTurned ask
+sync_turned d ask e =
+    let k1 = bound (needed (name_at (codes "a") d)) _ ask e in
+    let k2 = bound (needed (name_at (codes "b") d)) _ ask k1.2 in
+    let k3 = bound (needed (optional as_texts (codes "doc_ids") d)) _ ask k2.2 in
+    let k4 = bound (needed (optional as_uuid (codes "there") d)) _ ask k3.2 in
+    let k5 = bound (needed (optional as_uuid (codes "back") d)) _ ask k4.2 in
+    let k6 = bound (shared_in d) _ ask k5.2 in
+    only_turned d (record { there = way k1.0 k2.0 k3.0 (way_options k6.0 k4.0); back = way k2.0 k1.0 k3.0 (way_options k6.0 k5.0) }) ask (refl, refl) k6.2
 
 -- one direction, which may run out of memory
 may_bring : (old new : State) → IsConsistent old → (ask : ReplicateAsk) (told : Told) → MayTell ReportsReplication old ask told new → IsBrought old new ask told
