@@ -11,7 +11,8 @@ use Rattle.write_commands.specs.Replicate.{IsCovered}
 use Rattle.write_commands.specs.Restore.{IsRestored}
 use Rattle.write_commands.specs.Sync.{IsMet}
 
--- The guarantees for the outputs of the commands `audit`, `replicate`, `sync` and `restore`.
+-- The guarantees for the outputs of the commands `audit`, `replicate`, `sync` and `restore`, and for the databases
+-- before (`old`) and after (`new`) the command.
 abbrev pub IsTrusted : Asked → Told → State → State → Type 0
 IsTrusted (audit ask) told old new = IsClean told
 IsTrusted (replicate ask) told old new = IsCovered new ask told

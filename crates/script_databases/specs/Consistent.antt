@@ -47,16 +47,17 @@ CoversUpTo s source target chosen n =
     (p : PeerValue) × (q : PeerValue) × (peer_at s source ≡ Some p) × (peer_at s target ≡ Some q)
     × (n ≡ p.db.update_seq) × CoversFeed p q chosen n
 
--- The database `target` accounts for each leaf of the source's selected feed at or below sequence n. The leaf is in the
--- target's tree of the document, or in the ancestry of a document that the target has rightly refused (`IsAccounted`).
+-- The database `target` accounts for each leaf of the source's selected feed up to sequence n (`IsAccounted`, with the
+-- program's filter).
 abbrev pub AccountsUpTo : State → List ℕ → List ℕ → Choice → ℕ → Type 0
 AccountsUpTo s source target chosen n =
     (p : PeerValue) × (q : PeerValue) × (peer_at s source ≡ Some p) × (peer_at s target ≡ Some q)
     × ((row : RowValue) → Among row (chosen_feed chosen p.db 0 n) → (leaf : RevId) → Among leaf row.leaves
     → IsAccounted (deny_refuses s.program.deny) q row.id leaf)
 
--- How replications in both directions between the databases a and b, from state `old` to state `new`, change each
--- document that both selections contain and that neither database has ever refused (`Meets`).
+-- The guarantee of replications in both directions between the databases a and b, from state `old` to state `new`. Each
+-- document that both selections contain satisfies `Meets`, if both databases satisfy `HasRefusedNone` for the document
+-- in state `new`.
 abbrev pub MeetsAfter : State → State → List ℕ → List ℕ → Choice → Choice → Type 0
 MeetsAfter old new a b there back =
     (p : PeerValue) × (q : PeerValue) × (p' : PeerValue) × (q' : PeerValue)

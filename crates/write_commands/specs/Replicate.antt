@@ -235,8 +235,8 @@ ReportsReplication old ask told new = ReplicatesFound old ask (both_of old ask) 
 -- ---- the guarantee of `replicate`, as specified in docs/PROFILE.md, "Tied databases"
 
 -- The guarantee for a session that reached its goal and recorded a sequence. The recorded sequence is the source's
--- update sequence. Each leaf of the source's selected feed is in the target's tree of the leaf's document, or in the
--- ancestry of a rightly refused document.
+-- update sequence. The target covers each leaf of the source's selected feed (`CoversUpTo`), and accounts for each such
+-- leaf (`AccountsUpTo`).
 abbrev pub CoversIfDone : State → List ℕ → List ℕ → Choice → Ending → Type 0
 CoversIfDone s source target chosen (Done report) =
     CoversUpTo s source target chosen report.recorded × AccountsUpTo s source target chosen report.recorded
@@ -263,7 +263,7 @@ IsCoveredBy s ask text session ending chosen =
     (text ≡ ending_line session ending) × (choice_given ask.doc_ids ≡ Ok chosen)
     × CoversIfDone s ask.source ask.target chosen ending × StopsIfAsked ask.options ending
 
--- The session of a `replicate` line reached its goal, so that the line printed `session`.
+-- Whether the session of a `replicate` line reached its goal. If the session did, the line printed `session`.
 abbrev pub IsDone : Ending → Type 0
 IsDone (Stopped low_water) = ⊥
 IsDone ending = Unit {0}

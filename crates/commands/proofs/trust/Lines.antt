@@ -1,5 +1,5 @@
 -- The results of a line between consistent databases have their guarantees, and are results of the line.
-use Rattle.proof_prelude.proofs.{◌≡◌, inl, inr, sym, ℕ, Bool, List, [], ◌∷◌, Result, Ok, Err}
+use Rattle.proof_prelude.proofs.{inl, inr, sym, ℕ, Bool, List, [], ◌∷◌, Result, Ok, Err}
 use Rattle.serde_json.specs.Data.{object}
 use Rattle.script_engine.specs.{AnswersCut, AnswersFirst, IsAnswered, IsAnsweredSoFar, Run, Step, blank, served, IsToldUntil, Told, ScriptFault}
 use Rattle.script_engine.specs.declared.fault.ScriptFault.TheVariants.{Cut, Memory, Read, Write}
