@@ -1,6 +1,6 @@
 -- Defines the results that a line of a script may have, as specified in docs/PROFILE.md, "Command lines" and "Answers".
 -- The results of each command are defined in the command's crate, and the module `words` collects these results.
-use Rattle.std.specs.Prelude.{◌≡◌, ◌⊎◌, ℕ, List, Some, Result, Ok, Err}
+use Rattle.std.specs.Prelude.{◌≡◌, ◌⊎◌, ℕ, List, Some, Result, Err}
 use Rattle.std.specs.Str.{IsUtf8}
 use Rattle.serde_json.specs.Data.{object, Members}
 use Rattle.serde_json.specs.Read.{read}

@@ -11,17 +11,18 @@ use Rattle.write_commands.specs.Replicate.{IsCovered}
 use Rattle.write_commands.specs.Restore.{IsRestored}
 use Rattle.write_commands.specs.Sync.{IsMet}
 
--- The guarantees for the outputs of the commands `audit`, `replicate`, `sync` and `restore`.
-abbrev pub IsTrusted : Asked → Told → State → Type 0
-IsTrusted (audit ask) told new = IsClean told
-IsTrusted (replicate ask) told new = IsCovered new ask told
-IsTrusted (sync ask) told new = IsMet new ask told
-IsTrusted (restore ask) told new = IsRestored told
-IsTrusted ask told new = Unit {0}
+-- The guarantees for the outputs of the commands `audit`, `replicate`, `sync` and `restore`, and for the databases
+-- before (`old`) and after (`new`) the command.
+abbrev pub IsTrusted : Asked → Told → State → State → Type 0
+IsTrusted (audit ask) told old new = IsClean told
+IsTrusted (replicate ask) told old new = IsCovered new ask told
+IsTrusted (sync ask) told old new = IsMet old new ask told
+IsTrusted (restore ask) told old new = IsRestored told
+IsTrusted ask told old new = Unit {0}
 
 -- The results that a script's line may have, together with the guarantees that hold for every script. All databases of
 -- a script are consistent with each other before and after a line, and the output of the line satisfies `IsTrusted`.
 abbrev pub TrustedLines : Answering State (List ℕ)
 TrustedLines old line told new =
     (asked : Result Asked Refusal) × Asks line asked × AnswersAsked old asked told new × IsConsistent old × IsConsistent new
-    × IfOk asked (λ ask. IsTrusted ask told new)
+    × IfOk asked (λ ask. IsTrusted ask told old new)

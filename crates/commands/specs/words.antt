@@ -1,5 +1,5 @@
 -- Defines the commands of a script, by name, as specified in docs/PROFILE.md, "Command lines".
-use Rattle.std.specs.Prelude.{ℕ, List, codes, if◌then◌else◌, Option, Some, None, Result, Ok, Err}
+use Rattle.std.specs.Prelude.{ℕ, List, codes, if◌then◌else◌, Option, Some, None, Result, Err}
 use Rattle.std.specs.Str.{bytes_eq}
 use Rattle.serde_json.specs.Data.{Data}
 use Rattle.script_engine.specs.Serving.{Answering}

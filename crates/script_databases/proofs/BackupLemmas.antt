@@ -1,8 +1,8 @@
 -- Backups by name, and the errors of backups and restores.
-use Rattle.proof_prelude.proofs.{◌≡◌, ◌⊎◌, arith, common_steps, true, Option, Some, is_some, Result, Ok, Err, refl, ◌&&◌, Bool, false, List, [], ◌∷◌, ◌++◌, cond, None, sym, ap, ◌∙◌, option_map, lookup, find, map, map-append, string_bytes, string_eq}
+use Rattle.proof_prelude.proofs.{◌≡◌, ◌⊎◌, arith, common_steps, true, Option, Some, is_some, Result, Ok, Err, refl, ◌&&◌, List, [], ◌∷◌, ◌++◌, lookup, map-append, string_bytes, string_eq}
 use Rattle.repl_peer.specs.{PeerValue, GivesUnlessMemory, BackupValue, restore_answer, restored_by, after_restore, TargetFault}
 use Rattle.repl_network.proofs.{restores_in}
-use Rattle.script_databases.specs.{backed_of, backed_told, NamedBackupValue, backup_among, copies_of, is_named}
+use Rattle.script_databases.specs.{backed_of, backed_told, NamedBackupValue, backup_among, copies_of}
 use Rattle.std.proofs.lemmas.Cmp.{nat_list_eq_equiv}
 use Rattle.script_databases.specs.declared.backups.BackupName.{BackupName}
 use Rattle.repl_peer.specs.declared.fault.TargetFault.TheVariants as faults

@@ -1,14 +1,16 @@
 -- A successful replication between two databases brings the source's selected feed to the target, and a failed one fails
 -- with an expected error.
-use Rattle.proof_prelude.proofs.{◌≡◌, ◌≢◌, inl, inr, ℕ, List, Result, Ok, Err, refl, sym, ap, subst, ◌∙◌, Some, IfOk, IfOk-weaker, IfErr}
+use Rattle.proof_prelude.proofs.{◌≡◌, ◌≢◌, inl, inr, ℕ, same_Some, List, Result, Ok, Err, refl, sym, ap, subst, ◌∙◌, Some, IfOk, IfOk-weaker, IfErr}
 use Rattle.doc_json.specs.{Choice}
-use Rattle.couch_base.specs.{DatabaseValue}
+use Rattle.couch_base.specs.{DatabaseValue, LawfulDatabase}
 use Rattle.repl_peer.specs.{TargetFault, PeerValue, Report}
-use Rattle.repl_target.specs.{Plan, IsExpected, IsLeft, IsTiedPair, CoversFeed, Replicates, ended}
-use Rattle.repl_target.proofs.{replicates_left}
+use Rattle.repl_target.specs.{Plan, IsExpected, IsTiedPair, Leaves, CoversFeed, Replicates, ended}
+use Rattle.repl_target.proofs.{both_meet, replicates_leaves}
+use Rattle.repl_peer.proofs.lemmas.peer.TrustedPeers.{covered_accounted}
+use Rattle.repl_pool.proofs.{run_leaves}
 use Rattle.pool_workers.specs.{PoolFault}
 use Rattle.repl_pool.specs.{early_answer, EarlyOrLate, IsExpectedRun, RunsOn}
-use Rattle.script_databases.specs.{State, peer_at, with_peer, with_both, Nowhere, deny_refuses, ReplicatesAlone, ReplicatesBetween, ReplicatesByPool, ReplicatesWatched, unwatched, CoversUpTo, IsConsistent, Watched}
+use Rattle.script_databases.specs.{State, peer_at, with_peer, with_both, Nowhere, deny_refuses, ReplicatesAlone, ReplicatesBetween, ReplicatesByPool, ReplicatesWatched, unwatched, AccountsUpTo, CoversUpTo, IsConsistent, MeetsAfter, Watched}
 use Rattle.script_databases.proofs.Networks.{here, elsewhere, tied_pair}
 use Rattle.script_databases.proofs.ReplicationLemmas.{plan_apart, run_apart}
 use Rattle.script_databases.proofs.Tables.{names_apart}
@@ -18,8 +20,7 @@ pub record Brings (old : State) (a b : List ℕ) (s t : PeerValue) (plan : Plan)
   pub source : PeerValue
   pub target : PeerValue
   pub apart : s.db.uuid ≢ t.db.uuid
-  pub log : source ≡ record s { outgoing = source.outgoing }
-  pub left : IsLeft (deny_refuses old.program.deny) s t plan target
+  pub leaves : Leaves (deny_refuses old.program.deny) s t plan source target
   pub recorded : n ≡ s.db.update_seq
   pub whole : CoversFeed s target plan.chosen s.db.update_seq
   pub state : new ≡ with_both old a b source target
@@ -43,14 +44,14 @@ module _ (old : State) (h : IsConsistent old) (a b : List ℕ) (s t : PeerValue)
   pub brought : (n : ℕ) (new : State) → Brings old a b s t plan n new → CoversUpTo new a b plan.chosen n
   brought n new k =
       let two = names_apart (peer_at old) (λ x. x.db.uuid) a b s t at_s at_t k.apart in
-      let own : k.source.db ≡ s.db = ap (λ (x : PeerValue). x.db) k.log in
+      let own : k.source.db ≡ s.db = ap (λ (x : PeerValue). x.db) k.leaves.log in
       subst (λ st. CoversUpTo st a b plan.chosen n) (sym k.state) (
         k.source,
         k.target,
         elsewhere (with_peer old a k.source) b k.target a two ∙ here old a k.source,
         here (with_peer old a k.source) b k.target,
         k.recorded ∙ ap (λ (d : DatabaseValue). d.update_seq) (sym own),
-        subst (λ (x : PeerValue). CoversFeed x k.target plan.chosen n) (sym k.log) (subst (CoversFeed s k.target plan.chosen) (sym k.recorded) k.whole),
+        subst (λ (x : PeerValue). CoversFeed x k.target plan.chosen n) (sym k.leaves.log) (subst (CoversFeed s k.target plan.chosen) (sym k.recorded) k.whole),
       )
 
   -- ---- by one thread
@@ -61,8 +62,7 @@ module _ (old : State) (h : IsConsistent old) (a b : List ℕ) (s t : PeerValue)
     source = s';
     target = t';
     apart = alone_apart s t plan report s' t' old replicates;
-    log = keeps.log;
-    left = replicates_left (deny_refuses old.program.deny) s t plan (Ok report) s' t' replicates;
+    leaves = replicates_leaves (deny_refuses old.program.deny) s t plan (Ok report) s' t' replicates keeps.log keeps.tied keeps.others;
     recorded = keeps.well.recorded;
     whole = keeps.whole pair;
     state = is;
@@ -81,8 +81,7 @@ module _ (old : State) (h : IsConsistent old) (a b : List ℕ) (s t : PeerValue)
       source = s';
       target = t';
       apart = ran_apart full (old.program.deny, s) (old.program.deny, t) plan report (old.program.deny, s') (old.program.deny, t') fetched runs.early;
-      log = runs.log;
-      left = runs.grown.1;
+      leaves = run_leaves _ _ _ _ _ _ _ _ _ _ runs;
       recorded = runs.well.reported.recorded;
       whole = runs.whole pair;
       state = is;
@@ -105,6 +104,28 @@ module _ (old : State) (h : IsConsistent old) (a b : List ℕ) (s t : PeerValue)
   pub watched_fails : (result : Result Watched PoolFault) (new : State) → ReplicatesWatched old a b s t plan result new → IfErr (unwatched result) (IsExpectedRun (Unit {0}) Nowhere s t plan)
   watched_fails result new (inl (early, none, is)) = subst (λ (r : Result Watched PoolFault). IfErr (unwatched r) (IsExpectedRun (Unit {0}) Nowhere s t plan)) (sym none) tt
   watched_fails result new (inr (few, s', t', fetched, runs, is)) = run_fails (Unit {0}) s' t' fetched new is (unwatched result) runs
+
+-- what is covered is accounted for, since the target is lawful
+pub accounts : (s : State) → IsConsistent s → (a b : List ℕ) (c : Choice) (n : ℕ) → CoversUpTo s a b c n → AccountsUpTo s a b c n
+accounts s h a b c n (p, q, at, at', is, covers) = (p, q, at, at', λ row m leaf k. covered_accounted (deny_refuses s.program.deny) q (h.1 b q at').0.sessions row.id leaf (covers row m leaf k))
+
+-- a second replication in the other direction, after a first one; `begun` and `begun'` are the states that the two start in
+pub brings_meet : (old begun mid begun' new : State) → IsConsistent old → IsConsistent mid → IsConsistent new → (a b : List ℕ) (s t x y : PeerValue) → peer_at old a ≡ Some s → peer_at old b ≡ Some t → peer_at mid b ≡ Some x → peer_at mid a ≡ Some y
+    → (there back : Plan) (n k : ℕ) → Brings begun a b s t there n mid → Brings begun' b a x y back k new → MeetsAfter old new a b there.chosen back.chosen
+brings_meet old begun mid begun' new h h' h'' a b s t x y at_s at_t at_x at_y there back n k first second =
+    let two = names_apart (peer_at old) (λ p. p.db.uuid) a b s t at_s at_t first.apart in
+    let is : x ≡ first.target = same_Some x first.target (sym at_x ∙ ap (λ st. peer_at st b) first.state ∙ here (with_peer begun a first.source) b first.target) in
+    let is' : y ≡ first.source = same_Some y first.source (sym at_y ∙ ap (λ st. peer_at st a) first.state ∙ elsewhere (with_peer begun a first.source) b first.target a two ∙ here begun a first.source) in
+    let refuses = deny_refuses begun'.program.deny in
+    let leaves = subst (λ q. Leaves refuses first.target q back second.source second.target) is' (subst (λ p. Leaves refuses p y back second.source second.target) is second.leaves) in
+    let whole = subst (λ (p : PeerValue). CoversFeed p second.target back.chosen p.db.update_seq) is second.whole in
+    let law = subst (λ (p : PeerValue). LawfulDatabase p.db) is (h'.1 b x at_x).1 in
+    let at_a = ap (λ st. peer_at st a) second.state ∙ here (with_peer begun' b second.source) a second.target in
+    let at_b = ap (λ st. peer_at st b) second.state ∙ elsewhere (with_peer begun' b second.source) a second.target b (λ e. two (sym e)) ∙ here begun' b second.source in
+    let meet =
+    both_meet refuses (deny_refuses begun.program.deny) s t first.source first.target second.target second.source there back (h.1 a s at_s).1 law (h''.1 a second.target at_a).1 first.leaves leaves (λ _. first.whole) (λ _. whole)
+    (tied_pair old h a b s t at_s at_t there.chosen) (tied_pair old h b a t s at_t at_s back.chosen) in
+    (s, t, second.target, second.source, at_s, at_t, at_a, at_b, meet)
 
 -- ---- between two names
 

@@ -10,4 +10,4 @@ pub use Networks.{added_step, backed_is, backed_step, empty_consistent, is_added
 pub use BackupLemmas.{copies_of-append, copy_refused, lookup-among, taken_refused}
 pub use NamedLemmas.{changes, edit_gives, load_gives, restore_gives, same_Ok, stays, stored, stored_written, writes_of}
 pub use ReplicationLemmas.{alone_refused, plan_apart, run_apart, run_denied, run_refused, state_left, stored_both, watched_refused}
-pub use Covering.{Brings, alone_between, alone_brings, alone_fails, brought, pool_between, pool_brings, pool_fails, watched_between, watched_brings, watched_fails}
+pub use Covering.{Brings, accounts, alone_between, alone_brings, alone_fails, brings_meet, brought, pool_between, pool_brings, pool_fails, watched_between, watched_brings, watched_fails}

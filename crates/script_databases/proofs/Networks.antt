@@ -1,5 +1,5 @@
 -- The databases of a script as a network whose keys are names: each call is a step.
-use Rattle.proof_prelude.proofs.{◌≡◌, ◌≢◌, ◌⊎◌, inl, inr, ℕ, Bool, cond, List, [], Result, Ok, Err, OnErr, OnOk, refl, sym, ap, subst, ◌∙◌, Option, Some, None, and_parts, bytes_eq-Decides, option_map, find, same_Some, none-some, get-empty, cond_both, MatchResult-at_ok}
+use Rattle.proof_prelude.proofs.{◌≡◌, ◌≢◌, inl, inr, ℕ, Bool, cond, List, [], Result, Ok, Err, OnErr, OnOk, refl, sym, ap, subst, ◌∙◌, Option, Some, None, and_parts, bytes_eq-Decides, option_map, find, same_Some, none-some, cond_both, MatchResult-at_ok}
 use Rattle.doc_json.specs.Document.{Document}
 use Rattle.doc_json.specs.{Choice}
 use Rattle.couch_base.specs.{Among, Among-push, LawfulDatabase, found_member, id_is}

@@ -5,7 +5,7 @@ use Rattle.couch_base.specs.{LawfulDatabase}
 use Rattle.repl_peer.specs.{IsLaterPeer, Lawful, LawfulSessions, PeerValue, rules_refuse, Report, TargetFault, Rules}
 use Rattle.repl_peer.proofs.{IsLaterPeer-same}
 use Rattle.repl_target.specs.{IsLeft, Leaves, not_planned, plan_answer, Plan}
-use Rattle.repl_target.proofs.{plan_expected}
+use Rattle.repl_target.proofs.{others_same, plan_expected}
 use Rattle.pool_workers.specs.{PoolFault, Place}
 use Rattle.repl_pool.specs.{early_answer, EarlyOrLate, LeavesOrPuts, RunsOn}
 use Rattle.repl_pool.proofs.{runs_early}
@@ -57,7 +57,7 @@ module _ (old : State) (a b : List ℕ) (s t : PeerValue) (plan : Plan) (at_s : 
   kept = sym (ap (λ x. with_peer x b t) (peer_same old a s at_s) ∙ peer_same old b t at_t)
 
   pub alone_refused : (why : TargetFault) → plan_answer s.db.uuid t.db.uuid plan ≡ Err why → ReplicatesBetween ReplicatesAlone old a b plan (Err why) old
-  alone_refused why refused = (s, t, at_s, at_t, (s, t, not_planned refused, record { log = refl; later = IsLaterPeer-same t; tied = λ chosen backups h. h; well = tt; whole = tt; expected = λ tied. plan_expected s t plan why refused }, kept))
+  alone_refused why refused = (s, t, at_s, at_t, (s, t, not_planned refused, record { log = refl; later = IsLaterPeer-same t; tied = λ chosen backups h. h; others = others_same s t; well = tt; whole = tt; expected = λ tied. plan_expected s t plan why refused }, kept))
 
   module _ (lawful : LawfulSessions (deny_refuses old.program.deny) t) (why : PoolFault) (refused : early_answer s t plan ≡ Err why) where
     pub run_refused : ReplicatesBetween ReplicatesByPool old a b plan (Err why) old

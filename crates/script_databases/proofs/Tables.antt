@@ -1,5 +1,5 @@
 -- Stored tables by the bytes of their names, their filters, and the index of the UUIDs.
-use Rattle.proof_prelude.proofs.{◌≡◌, ◌≢◌, ◌⊎◌, inl, inr, ℕ, true, false, cond, List, [], ◌∷◌, map, refl, sym, ap, ◌∙◌, arith, common_steps, Option, Some, string_bytes, is_some, option_map, bytes_eq, bytes_eq-Decides, eq_by_cmp_equiv, eq_by_cmp, FinMap, get, contains_key, get-from_entries, get-insert, same_map, slice_cmp-IsAntisymmetric, nat_cmp-IsAntisymmetric, IsAntisymmetric, nat_list_cmp_total, is_eq-slice_cmp, same_Some, both_ways, cases_Bool, false_from_ne_true, String, UpdatesBy, hash_map_updates_text, string_eq, Bool, None, nat_eq, subst, option_map_or, starts_with, list_any, eqb-true, eq-eqb, none-some, true≢false}
+use Rattle.proof_prelude.proofs.{◌≡◌, ◌≢◌, ◌⊎◌, inl, inr, ℕ, true, false, cond, List, [], ◌∷◌, map, refl, sym, ap, ◌∙◌, arith, common_steps, Option, Some, string_bytes, is_some, option_map, bytes_eq, bytes_eq-Decides, eq_by_cmp_equiv, FinMap, get, contains_key, get-from_entries, get-insert, same_map, slice_cmp-IsAntisymmetric, nat_cmp-IsAntisymmetric, IsAntisymmetric, nat_list_cmp_total, is_eq-slice_cmp, same_Some, both_ways, cases_Bool, false_from_ne_true, String, UpdatesBy, hash_map_updates_text, string_eq, Bool, None, nat_eq, subst, option_map_or, starts_with, list_any, eqb-true, eq-eqb, none-some, true≢false}
 use Rattle.std.specs.declared.alloc.Global.{Global}
 use Rattle.std.specs.FinMap.{find, insert}
 use Rattle.std.specs.HashMap.{HashMap}

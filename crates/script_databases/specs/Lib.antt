@@ -12,7 +12,7 @@ pub use Databases.{put_back_answer, put_back_by, put_back_of, text_cmp, with_bac
 pub use Replications.{KeepsTied, Nowhere, ReplicatesAlone, ReplicatesBetween, ReplicatesByPool, ReplicatesWatched, deny_refuses, unwatched}
 pub use Replications.{with_both}
 pub use Stored.{AllDeny, Beside, Entries, IsIndex, IsWithBoth, IsWithOne, beside_of, copies_of, deny_of, entry_at, peers_of, program_of, state_of}
-pub use Consistent.{AreLawful, CoversUpTo, IsConsistent, IsCopyOf, IsStored}
+pub use Consistent.{AccountsUpTo, AreLawful, CoversUpTo, IsConsistent, IsCopyOf, IsStored, MeetsAfter}
 pub use declared.databases.Edited.{Edited}
 pub use declared.refusal.Refusal.{Refusal}
 pub use declared.watched.Watched.{Watched}

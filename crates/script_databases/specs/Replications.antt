@@ -16,7 +16,7 @@ use Rattle.repl_peer.specs.peer.Peer.{PeerValue}
 use Rattle.repl_target.specs.Audit.{CoversFeed}
 use Rattle.repl_target.specs.replication.Replication.{IsReported, Replicates}
 use Rattle.repl_target.specs.replication.Expected.{IsExpected}
-use Rattle.repl_target.specs.ties.Ties.{IsTiedPair, IsTiedWith}
+use Rattle.repl_target.specs.ties.Ties.{IsTiedPair, IsTiedWith, KeepsOthersTied}
 use Rattle.repl_peer.specs.declared.fault.Report.{Report}
 use Rattle.repl_peer.specs.declared.fault.TargetFault.{TargetFault}
 use Rattle.repl_target.specs.declared.replication.Plan.{Plan}
@@ -48,6 +48,7 @@ pub record KeepsTied (s t : PeerValue) (plan : Plan) (result : Result Report Tar
     pub later : IsLaterPeer t t'
     pub tied : (chosen : Choice) (backups : List BackupValue) → IsTiedWith backups s t chosen
         → IsTiedWith backups s' t' chosen
+    pub others : KeepsOthersTied s t s' t'
     pub well : IfOk result (λ report. IsReported s t t' plan report)
     pub whole : OnOk result (IsTiedPair s t plan.chosen → CoversFeed s t' plan.chosen s.db.update_seq)
     pub expected : IfErr result (λ why. IsTiedPair s t plan.chosen → IsExpected s t plan why)

@@ -5,4 +5,4 @@ pub use LoadLemmas.{loads, loads_drawn, loads_named, loads_taken, refused_either
 pub use ReplicateLemmas.{replicated, replicates, too_late, unchosen}
 pub use trust.Replicate.{reports_covered}
 pub use trust.Restore.{restores_known}
-pub use trust.Sync.{syncs_met}
+pub use trust.Sync.{AreTurned, sync_turned, syncs_met}

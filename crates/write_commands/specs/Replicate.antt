@@ -12,7 +12,7 @@ use Rattle.repl_peer.specs.declared.fault.Report.{Report}
 use Rattle.repl_peer.specs.declared.fault.TargetFault.{TargetFault}
 use Rattle.repl_target.specs.declared.replication.Plan.{Plan}
 use Rattle.script_engine.specs.Serving.{Told, Answering}
-use Rattle.script_databases.specs.Consistent.{CoversUpTo}
+use Rattle.script_databases.specs.Consistent.{AccountsUpTo, CoversUpTo}
 use Rattle.script_databases.specs.Replications.{ReplicatesAlone, ReplicatesByPool, ReplicatesWatched}
 use Rattle.script_databases.specs.Databases.{Program, State, drawn_one, next_made}
 use Rattle.script_databases.specs.Refusals.{GivesOrMemory, name_of, run_stop_of, stop_of}
@@ -235,10 +235,14 @@ ReportsReplication old ask told new = ReplicatesFound old ask (both_of old ask) 
 -- ---- the guarantee of `replicate`, as specified in docs/PROFILE.md, "Tied databases"
 
 -- The guarantee for a session that reached its goal and recorded a sequence. The recorded sequence is the source's
--- update sequence, and the target covers each leaf of the source's selected feed.
+-- update sequence. The target covers each leaf of the source's selected feed (`CoversUpTo`), and accounts for each such
+-- leaf (`AccountsUpTo`).
 abbrev pub CoversIfDone : State → List ℕ → List ℕ → Choice → Ending → Type 0
-CoversIfDone s source target chosen (Done report) = CoversUpTo s source target chosen report.recorded
-CoversIfDone s source target chosen (Shown watched) = CoversUpTo s source target chosen watched.report.recorded
+CoversIfDone s source target chosen (Done report) =
+    CoversUpTo s source target chosen report.recorded × AccountsUpTo s source target chosen report.recorded
+CoversIfDone s source target chosen (Shown watched) =
+    CoversUpTo s source target chosen watched.report.recorded
+    × AccountsUpTo s source target chosen watched.report.recorded
 CoversIfDone s source target chosen (Stopped low_water) = Unit {0}
 
 -- With one thread, a session stops below its goal only if the line has `stop_after`.
@@ -253,11 +257,20 @@ MayFail ask refusal =
     (refusal ≡ why.NoDatabase) ⊎ (refusal ≡ why.BadMoment) ⊎ (choice_given ask.doc_ids ≡ Err refusal)
     ⊎ Fails ask.options.alone ask.options.progress refusal
 
+-- The guarantee for a `replicate` line that printed `text`, with the line's session id, ending and selection.
+abbrev pub IsCoveredBy : State → ReplicateAsk → List ℕ → SessionId → Ending → Choice → Type 0
+IsCoveredBy s ask text session ending chosen =
+    (text ≡ ending_line session ending) × (choice_given ask.doc_ids ≡ Ok chosen)
+    × CoversIfDone s ask.source ask.target chosen ending × StopsIfAsked ask.options ending
+
+-- Whether the session of a `replicate` line reached its goal. If the session did, the line printed `session`.
+abbrev pub IsDone : Ending → Type 0
+IsDone (Stopped low_water) = ⊥
+IsDone ending = Unit {0}
+
 -- The guarantee for a `replicate` line. A `replicate` line that succeeds prints an ending that satisfies `CoversIfDone`
 -- and `StopsIfAsked`. A `replicate` line that fails has an error that `MayFail` lists.
 abbrev pub IsCovered : State → ReplicateAsk → Told → Type 0
 IsCovered s ask (Ok text) =
-    (session : SessionId) × (ending : Ending) × (chosen : Choice) × (text ≡ ending_line session ending)
-    × (choice_given ask.doc_ids ≡ Ok chosen) × CoversIfDone s ask.source ask.target chosen ending
-    × StopsIfAsked ask.options ending
+    (session : SessionId) × (ending : Ending) × (chosen : Choice) × IsCoveredBy s ask text session ending chosen
 IsCovered s ask (Err name) = (refusal : Refusal) × (name ≡ name_of refusal) × MayFail ask refusal

@@ -3,14 +3,17 @@ use Rattle.std.specs.Prelude.{◌≡◌, ◌⊎◌, ℕ, false, List, [], ◌∷
 use Rattle.serde_json.specs.Data.{Data}
 use Rattle.serde_json.specs.Find.{as_bool}
 use Rattle.script_engine.specs.Serving.{Told, Answering, MayTell}
-use Rattle.script_databases.specs.Consistent.{IsConsistent}
+use Rattle.script_databases.specs.Consistent.{IsConsistent, MeetsAfter}
 use Rattle.script_databases.specs.Databases.{State}
 use Rattle.script_databases.specs.Refusals.{name_of}
 use Rattle.script_databases.specs.declared.refusal.Refusal.{Refusal}
 use Rattle.rev_core.specs.Checks.{◌>>=◌}
 use Rattle.command_api.specs.Checks.{needed}
 use Rattle.command_api.specs.Members.{as_texts, as_uuid, as_whole, name_at, optional, if_only}
-use Rattle.write_commands.specs.Replicate.{ReplicateAsk, ReportsReplication, IsCovered, MayFail, replicate_asked}
+use Rattle.write_commands.specs.Replicate.{ReplicateAsk, ReportsReplication, IsCoveredBy, IsDone, MayFail, replicate_asked}
+use Rattle.write_commands.specs.declared.replicate.Ending.{Ending}
+use Rattle.rev_tree.specs.declared.origin.SessionId.{SessionId}
+use Rattle.doc_json.specs.Chosen.{Choice}
 use Rattle.write_commands.specs.declared.replicate.Options.{Options}
 use Rattle.write_commands.specs.declared.sync.BothWays.{BothWays}
 use Rattle.write_commands.specs.declared.sync.Shared.{Shared}
@@ -94,12 +97,16 @@ Syncs old ask told new =
 
 -- ---- the guarantee of `sync`, as specified in docs/PROFILE.md, "Tied databases"
 
--- Each direction of a successful `sync` line has the guarantee of a `replicate` line (`IsCovered`). Between the forward
--- direction and the reverse direction of a `sync` line, all databases are consistent. The error of a failed `sync` line
+-- The guarantee for a `sync` line. If a `sync` line succeeds, each direction has the guarantee of a `replicate` line
+-- (`IsCoveredBy`), and all databases are consistent between the forward direction and the reverse direction. If both
+-- directions printed `session`, the two databases have the guarantees of `MeetsAfter`. The error of a failed `sync` line
 -- is an error that `MayFail` lists for the forward or the reverse direction.
-abbrev pub IsMet : State → SyncAsk → Told → Type 0
-IsMet new ask (Ok text) =
-    (mid : State) × (first : List ℕ) × (second : List ℕ) × (text ≡ first ++ second) × IsConsistent mid
-    × IsCovered mid ask.there (Ok first) × IsCovered new ask.back (Ok second)
-IsMet new ask (Err name) =
+abbrev pub IsMet : State → State → SyncAsk → Told → Type 0
+IsMet old new ask (Ok text) =
+    (mid : State) × (first : List ℕ) × (second : List ℕ) × (session : SessionId) × (session' : SessionId)
+    × (ending : Ending) × (ending' : Ending) × (chosen : Choice) × (chosen' : Choice)
+    × (text ≡ first ++ second) × IsConsistent mid
+    × IsCoveredBy mid ask.there first session ending chosen × IsCoveredBy new ask.back second session' ending' chosen'
+    × (IsDone ending → IsDone ending' → MeetsAfter old new ask.there.source ask.there.target chosen chosen')
+IsMet old new ask (Err name) =
     (refusal : Refusal) × (name ≡ name_of refusal) × (MayFail ask.there refusal ⊎ MayFail ask.back refusal)

@@ -1,17 +1,22 @@
 -- The results of a line between consistent databases have their guarantees, and are results of the line.
-use Rattle.proof_prelude.proofs.{ℕ, Bool, List, [], ◌∷◌, Result, Ok, Err}
+use Rattle.proof_prelude.proofs.{inl, inr, sym, ℕ, Bool, List, [], ◌∷◌, Result, Ok, Err}
+use Rattle.serde_json.specs.Data.{object}
 use Rattle.script_engine.specs.{AnswersCut, AnswersFirst, IsAnswered, IsAnsweredSoFar, Run, Step, blank, served, IsToldUntil, Told, ScriptFault}
 use Rattle.script_engine.specs.declared.fault.ScriptFault.TheVariants.{Cut, Memory, Read, Write}
 use Rattle.script_databases.specs.{IsConsistent, State, Refusal}
 use Rattle.command_api.proofs.{may_tell}
 use Rattle.commands.specs.{AnswersAsked, Asks, LinesAnswer, Asked, TrustedLines}
-use Rattle.commands.proofs.trust.Words.{words_trusted}
+use Rattle.commands.proofs.trust.Words.{IsTurned, in_turned, words_trusted}
+
+asks_turned : (line : List ℕ) (ask : Asked) → Asks line (Ok ask) → IsTurned ask
+asks_turned line ask (inl (ms, is, e)) = in_turned (object ms) ask (sym e)
+asks_turned line ask (inr (none, e)) = cc
 
 pub line_trusted : (old new : State) → IsConsistent old → IsConsistent new → (line : List ℕ) (told : Told) → LinesAnswer old line told new → TrustedLines old line told new
 line_trusted old new h h' line told (asked, asks, answers) = go asked asks answers
   where
     go : (r : Result Asked Refusal) → Asks line r → AnswersAsked old r told new → TrustedLines old line told new
-    go (Ok ask) k d = (Ok ask, k, d, h, h', words_trusted old new h ask told d)
+    go (Ok ask) k d = (Ok ask, k, d, h, h', words_trusted old new h h' ask (asks_turned line ask k) told d)
     go (Err refusal) k d = (Err refusal, k, d, h, h', tt)
 
 -- ---- without the guarantees

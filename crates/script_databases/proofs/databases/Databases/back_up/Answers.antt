@@ -1,4 +1,4 @@
-use Rattle.proof_prelude.proofs.{◌≡◌, inl, inr, List, [], ◌∷◌, ◌++◌, Option, Some, None, is_some, Ok, Err, sym, ap, subst, ◌∙◌, option_map, option_copied}
+use Rattle.proof_prelude.proofs.{◌≡◌, inl, inr, List, [], ◌∷◌, ◌++◌, None, is_some, Ok, Err, sym, ap, subst, ◌∙◌, option_map, option_copied}
 use Rattle.rev_tree.proofs.{is_some-copied, none_of}
 use Rattle.couch_base.specs.{DatabaseValue}
 use Rattle.repl_peer.specs.{backup_answer, copy_of}

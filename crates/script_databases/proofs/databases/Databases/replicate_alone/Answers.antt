@@ -42,5 +42,5 @@ returns c =
     let is = state_left g es out.new.names.entries c.put_in.new.names.entries c.args.source.now c.args.target.now left.0 left.1 s t s' t' left.2 c.put_in.ensures out.ensures.source out.ensures.target in
     let between =
     subst (λ (st : State). ReplicatesBetween ReplicatesAlone st c.args.source.now c.args.target.now c.args.plan.now c.replicate_alone-outcome.result (state_of g c.put_in.new.names.entries)) c.self.view_is
-    (s.1, t.1, at_of es c.args.source.now (Some s) out.ensures.source, at_of es c.args.target.now (Some t) out.ensures.target, (s'.1, t'.1, subst (λ f. Replicates f s.1 t.1 c.args.plan.now c.replicate_alone-outcome.result s'.1 t'.1) (refuses_is g.program.deny t.0 (c.self.invariant.0 c.args.target.now t out.ensures.target)) e.replicates, record { log = e.source; later = (left_law _ s.1 t.1 c.args.plan.now c.replicate_alone-outcome.new.target.1 c.law.ensures.database c.law-2.ensures.peer.sessions (replicates_left _ s.1 t.1 c.args.plan.now c.replicate_alone-outcome.result c.replicate_alone-outcome.new.source.1 c.replicate_alone-outcome.new.target.1 c.replicate_alone-outcome.ensures.replicates)).1; tied = e.tied; well = e.report; whole = e.whole; expected = e.expected }, is)) in
+    (s.1, t.1, at_of es c.args.source.now (Some s) out.ensures.source, at_of es c.args.target.now (Some t) out.ensures.target, (s'.1, t'.1, subst (λ f. Replicates f s.1 t.1 c.args.plan.now c.replicate_alone-outcome.result s'.1 t'.1) (refuses_is g.program.deny t.0 (c.self.invariant.0 c.args.target.now t out.ensures.target)) e.replicates, record { log = e.source; later = (left_law _ s.1 t.1 c.args.plan.now c.replicate_alone-outcome.new.target.1 c.law.ensures.database c.law-2.ensures.peer.sessions (replicates_left _ s.1 t.1 c.args.plan.now c.replicate_alone-outcome.result c.replicate_alone-outcome.new.source.1 c.replicate_alone-outcome.new.target.1 c.replicate_alone-outcome.ensures.replicates)).1; tied = e.tied; others = e.others; well = e.report; whole = e.whole; expected = e.expected }, is)) in
     record { between = between; covered = alone_between _ _ (subst IsConsistent c.self.view_is c.self.invariant.2) _ _ _ _ between }
