@@ -66,7 +66,7 @@ pub enum TargetFault {
     #[error("no such session")]
     NoSuchSession,
     /// The life of a window differs from the session's life, or the life of a log entry differs from the database's
-    /// life. The field `now` is the expected life.
+    /// life. The field `now` is the life of the session (for a window) or of the database (for a log entry).
     #[error("of another life than {now}")]
     OtherLife {
         now: u64,
@@ -97,7 +97,8 @@ pub enum TargetFault {
         cause: Cause,
     },
     /// The parcel's documents are settled, but the window is not done because a leaf of the window's rows is not
-    /// covered. The variant names the first leaf that is not covered.
+    /// covered. The fields `seq` and `id` name the row of the first leaf that is not covered, and the field `rev` is
+    /// this leaf.
     #[error("a leaf of the window is not covered")]
     Uncovered {
         seq: u64,
@@ -109,7 +110,8 @@ pub enum TargetFault {
     Unfinished {
         low_water: u64,
     },
-    /// The log already has an entry of this session with a greater recorded sequence, `stored`, than the new entry.
+    /// The log's entry of the session has a recorded sequence (`stored`) that is greater than the new entry's recorded
+    /// sequence.
     #[error("older than the stored entry, which recorded {stored}")]
     Older {
         stored: u64,
@@ -140,7 +142,7 @@ pub enum TargetFault {
 pub struct Report {
     /// The session.
     pub session: SessionId,
-    /// The source's sequence above which the session read changes.
+    /// The source's sequence at which the session started. The session read only the changes above this sequence.
     pub start: u64,
     /// The source's sequence up to which every window of the session is done.
     pub recorded: u64,
@@ -168,8 +170,8 @@ impl From<BaseFault> for Cause {
     }
 }
 
-/// Converts an error of `Front::finish` to a `Cause`, the reason why settling a parcel stopped. The window was checked
-/// before the call of `finish`.
+/// Converts an error of `Front::finish` to a `Cause`, the reason why settling a parcel stopped. Before settling calls
+/// `finish`, settling checks that the window exists and is not done. The only other error of `finish` is `Memory`.
 impl From<FrontFault> for Cause {
     ghost from_gives = { λ fault cause. cause ≡ cause_by_front fault };
 

@@ -35,8 +35,8 @@ pub fn rep_between<F: WriteFilter, G: WriteFilter>(
 /// two sequences that the source's log and the target's log have recorded for this session. Returns `None` if the logs
 /// share no session.
 ///
-/// The call scans the target's sessions of the replication, newest first, until it finds the common session. Does not
-/// allocate.
+/// The call scans the target's sessions of the replication, newest first, until it finds a session that is also in the
+/// source's log. Does not allocate.
 pub fn checkpoint<F: WriteFilter, G: WriteFilter>(
     source: &Peer<F>,
     target: &Peer<G>,

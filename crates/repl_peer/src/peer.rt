@@ -129,10 +129,10 @@ impl<F: WriteFilter> Peer<F> {
 
     /// Returns the database.
     ///
-    /// The contract of `db` states guarantees that hold for every peer. Up to a session's recorded sequence, each leaf
-    /// in the rows of the session's windows is covered: it is in the tree or rightly refused. Each revision in the
-    /// database comes from a local write or from a row of a window. The number of read documents is the number of
-    /// written documents plus the number of refused documents.
+    /// The contract of `db` also states the following properties, which every peer has. Up to a session's recorded
+    /// sequence, each leaf in the rows of the session's windows is covered: it is in the tree or rightly refused. Each
+    /// revision in the database comes from a local write or from a row of a window. The number of read documents is the
+    /// number of written documents plus the number of refused documents.
     pub fn db(&self) -> &Database
         ensures value { result.now ≡ self.now.1.db }
         ensures law { Lawful (F.refuses self.now.0) self.now.1 }
@@ -160,8 +160,8 @@ impl<F: WriteFilter> Peer<F> {
 
     // ---- local writes
 
-    /// Stores a user's document with its ancestry as given. If the put changes the database, the put becomes the peer's
-    /// next local write.
+    /// Stores a user's document with the ancestry in `doc`, without computing a new revision id. If the put changes the
+    /// database, the put becomes the peer's next local write.
     ///
     /// The call returns the errors of `Database::put`. The call returns `Memory` only if the put would change the
     /// database. An error changes nothing.
@@ -177,8 +177,8 @@ impl<F: WriteFilter> Peer<F> {
 
     /// Edits a document, stores the edit as the next local write, and returns the new revision.
     ///
-    /// The call returns the errors of `Database::edit`. The call returns `Memory` only if `Database::edit` may return
-    /// `Memory`. An error changes nothing.
+    /// The call returns the errors of `Database::edit`. The call never returns `Memory` instead of `NoSuchDocument`,
+    /// `Conflict` or `GenerationFull`. An error changes nothing.
     pub fn edit(&mut self, id: &DocId, parent: Option<Rev>, deleted: bool, body: &Body) -> Revised
         ensures answer { EditGives result (edit_answer self.old.1.db id.now parent deleted body.now) }
         ensures filter { self.new.0 ≡ self.old.0 }
@@ -291,7 +291,7 @@ impl<F: WriteFilter> Peer<F> {
     ///
     /// - `SessionExists`: the peer already has a session with the given id.
     /// - `NoSuchBase`: the base is not a session of the same replication.
-    /// - `StartAboveBase`: the start exceeds the base's recorded sequence, or 0 if there is no base.
+    /// - `StartAboveBase`: the start exceeds the base's recorded sequence or, if there is no base, exceeds 0.
     /// - `GoalBelowStart`: the goal is below the start.
     /// - `Memory`: an allocation failed.
     pub fn begin(

@@ -1,4 +1,4 @@
-//! The stored form of incoming sessions.
+//! How a peer stores an incoming session in memory.
 
 ghost use Rattle.std.specs.Prelude.{◌≡◌, ◌==◌, OnOk, OnErr, if◌then◌else◌};
 ghost use Rattle.range_front.specs.Front.{low_water};

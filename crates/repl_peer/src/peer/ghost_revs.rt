@@ -8,7 +8,8 @@ ghost use Rattle.rev_core.specs.RevOrder.{coded_rev};
 use rev_core::Rev;
 use std::marker::Model;
 
-/// The revisions of a write, newest first. Only contracts can read this value, which has size zero at run time.
+/// The revisions of a write, newest first. Only contracts can read these revisions, because a `GhostRevs` has size zero
+/// at run time.
 #[derive(Drop)]
 pub(crate) struct GhostRevs {
     pub(crate) ghost revs: { List RevId } by { coded_list coded_rev },
@@ -31,7 +32,7 @@ pub(crate) enum Came<'a> {
     Whole(&'a [Rev]),
     /// The revisions of an edit: the new revision and the new revision's parent.
     Edit(Rev, Option<Rev>),
-    /// For a write that is a copy: the revisions of the original write.
+    /// The revisions of an existing write, for a copy of this write (`Written::copy`).
     Again(&'a GhostRevs),
 }
 

@@ -19,8 +19,8 @@ use std::alloc::AllocError;
 /// Stores a user's document in the database, together with the local write that records the put.
 ///
 /// The call builds the local write before it changes the database, so that an error changes nothing. If the allocation
-/// for the local write fails and the put would change the database, the call returns `Memory`. If the put would not
-/// change the database, the call returns the result of `Database::put_answer` after a failed allocation.
+/// for the local write fails and the put would change the database, the call returns `Memory`. If this allocation fails
+/// and the put would not change the database, the call returns the result of `Database::put_answer`.
 pub(crate) fn load(
     db: &mut Database,
     locals: &mut Vec<Written>,
@@ -74,8 +74,8 @@ fn prepare_id(locals: &mut Vec<Written>, id: &DocId) -> Result<DocId, AllocError
 /// Edits a document, and stores the local write that records the edit.
 ///
 /// The call prepares the local write before it changes the database, so that an error changes nothing. If the
-/// allocation for the local write fails, the call returns the error of `Database::check_edit`. If `check_edit` returns
-/// no error, the call returns `Memory`.
+/// allocation for the local write fails, the call returns the error of `Database::check_edit`, or `Memory` if
+/// `check_edit` returns no error.
 pub(crate) fn edit(
     db: &mut Database,
     locals: &mut Vec<Written>,

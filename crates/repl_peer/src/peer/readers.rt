@@ -14,7 +14,8 @@ impl<F: WriteFilter> Peer<F> {
     ghost use Rattle.repl_peer.specs.peer.Peer.{session_in};
     ghost use Rattle.repl_peer.specs.session.Windows.{windows_of};
 
-    /// Returns the local writes in order. A local write's number is its index in the result.
+    /// Returns the local writes in order. The number of a local write (`Origin::Local`) is its index in the returned
+    /// list.
     pub fn locals(&self) -> &[Written]
         ensures { result.now ≡ self.now.1.locals }
     {
@@ -59,8 +60,8 @@ impl<F: WriteFilter> Peer<F> {
         }
     }
 
-    /// Returns the arrivals (stored documents) of a session in order, if the peer has the session. The result has two
-    /// parts: a list of lists with the earlier arrivals, and a list with the later arrivals.
+    /// Returns the arrivals (stored documents) of a session in order, if the peer has the session. The arrivals in the
+    /// result's list of lists come before the arrivals in the result's second list.
     pub fn arrivals(&self, id: SessionId) -> Option<(&[Vec<Written>], &[Written])>
         ensures { option_map (λ lists. flat_map (λ list. list.items) lists.0.now ++ lists.1.now) result
             ≡ option_map (λ s. s.arrivals) (session_in self.now.1.sessions id) }

@@ -99,8 +99,8 @@ impl Written {
 
     /// Returns the revision at index `place` in the list of the write's revisions, or `None` if the list is too short.
     /// The newest revision has index 0. A write stores only its newest revision. The method `rev` reads the older
-    /// revisions from the document's tree in `db`. In this tree, the parent of each revision except the last must be
-    /// the write's next revision (`StandsIn`).
+    /// revisions from the document's tree in `db`. The contract requires that each listed revision except the last has
+    /// the next listed revision as its parent in the document's tree (`StandsIn`).
     pub fn rev(&self, db: &Database, place: usize) -> Option<Rev>
         requires { StandsIn db.now self.now }
         ensures { result ≡ slice_get self.now.ancestry place }

@@ -28,8 +28,8 @@ use rev_tree::{Origin, SessionId};
 use std::mem::replace;
 
 /// Settles the first documents of a parcel, if they have prepared arrivals. Stops at the first document that is refused
-/// or cannot be stored. Returns the number of settled documents. The caller then settles the next document individually
-/// to find out why the document could not be stored in bulk.
+/// or cannot be stored. Returns the number of settled documents. The caller (`settle_in_order`) settles the remaining
+/// documents one by one. `settle_prepared` does not return the reason why it stopped.
 ///
 /// The call adds the arrivals as one list, to avoid adding each arrival separately while the peer is locked. If the
 /// allocation for the list of arrivals fails, no document is settled.

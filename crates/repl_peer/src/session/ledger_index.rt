@@ -21,7 +21,7 @@ use std::sync::Arc;
 pub(crate) struct LedgerIndex {
     /// For each document id, the first ledger document with this id.
     first: IndexMap<DocId, Arc<Doc>>,
-    /// For each document id with several ledger documents, the revisions of all these documents except the first.
+    /// For each document id with several ledger documents, the revisions of the second and all later documents.
     later: IndexMap<DocId, IndexSet<Rev>>,
 }
 
@@ -56,8 +56,7 @@ impl LedgerIndex {
         }
     }
 
-    /// Whether a ledger document with the id `id`, other than the first such document, has the revision in its
-    /// ancestry.
+    /// Whether a revision is in the ancestry of the second or a later ledger document with the id `id`.
     fn is_in_later(&self, id: &DocId, rev: Rev) -> bool
         ensures { result ≡ is_in_later self.now id.now rev }
     {

@@ -53,7 +53,8 @@ impl PreparedParcel {
     }
 
     /// Builds the arrivals of a parcel's documents, and the trees that these documents would have as new documents. For
-    /// contracts, the prepared parcel keeps its value when arrivals and trees are built.
+    /// contracts, trees and arrivals are not part of a prepared parcel, so `prepare` does not change the prepared
+    /// parcel (clause `same`).
     pub fn prepare(&mut self, alloc: Global) -> Result<(), AllocError>
         ensures same { self.new ≡ self.old }
     {

@@ -7,8 +7,8 @@ use std::alloc::Global;
 use std::marker::Model;
 
 /// A window, optionally with a prebuilt copy (`DoneWindow`) that does not have the leaves of the window's rows. After
-/// the window is done, the session stores only the copy, unless the copy could not be allocated. The call `prepare`
-/// builds the copy of the window before the peer is locked.
+/// the window is done, the session stores only the `DoneWindow`, unless its allocation fails. A caller can build the
+/// `DoneWindow` with `prepare` before the caller locks the peer.
 pub struct ReadyWindow {
     window: Window,
     done: Option<DoneWindow>,

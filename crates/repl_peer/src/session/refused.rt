@@ -17,8 +17,8 @@ pub struct Refused {
     reason: StoredReason,
 }
 
-/// The stored form of the reason in a ledger row. A contradiction is stored in a heap block, because its three
-/// revisions need 216 bytes.
+/// The reason why a document was refused, as `Refused` stores this reason. A contradiction is stored in a heap block
+/// (`Box`). Without the `Box`, every `Refused` would need space for the three revisions of a contradiction (216 bytes).
 #[derive(Drop)]
 enum StoredReason {
     Filtered,

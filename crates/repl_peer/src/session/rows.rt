@@ -30,8 +30,8 @@ fn row_in(rows: &[Row], id: &DocId) -> Option<usize>
 }
 
 /// Returns the index of a row that has the given document id. The search begins with the row at index `from + 1`. If
-/// the row at index `from + 1` does not match, `row_from` searches all rows from index `from`, and finally the rows
-/// before index `from`.
+/// the row at index `from + 1` does not exist or has another id, `row_from` searches the rows from index `from` on.
+/// Last, `row_from` searches the rows before index `from`.
 ///
 /// Consecutive documents of a parcel usually have consecutive rows of the window, or the same row.
 pub(crate) fn row_from(rows: &[Row], id: &DocId, from: usize) -> Option<usize>
@@ -52,7 +52,7 @@ pub(crate) fn row_from(rows: &[Row], id: &DocId, from: usize) -> Option<usize>
 }
 
 /// Returns the index and the sequence of the row that has the given document id. The caller guarantees that a row with
-/// the document id exists. Searches the rows from an index on, and then the rows before that index.
+/// the document id exists. Searches the rows with `row_from`, which begins at index `from + 1`.
 pub(crate) fn seq_from(rows: &[Row], id: &DocId, from: usize) -> (usize, u64)
     requires within { from ≤ length rows.now }
     requires there { list_any (λ row. bytes_eq row.id id.now) rows.now ≡ true }

@@ -32,8 +32,8 @@ use std::marker::Model;
 /// The incoming sessions of a peer, newest first, with lookup tables of refused revisions and of sessions by
 /// replication.
 ///
-/// Sessions are stored oldest first, in a table by session id. A call that names one session therefore does not scan
-/// all sessions.
+/// The map `entries` has the sessions by session id, and keeps the order in which the sessions began. A call that gets
+/// a session id finds the session in this map without a scan of all sessions.
 #[derive(Drop)]
 pub(crate) struct Sessions {
     entries: IndexMap<SessionId, Session>,
@@ -124,8 +124,8 @@ impl Sessions {
 
     /// Returns the common checkpoint of a replication. The checkpoint names the replication's newest session that is
     /// also in the source's log. The checkpoint's sequence is the lesser of the two sequences that the target and the
-    /// source's log have recorded for this session. The call scans only sessions of this replication, newest first, and
-    /// stops at the common session.
+    /// source's log have recorded for this session. The call scans only sessions of the replication `rep`, newest
+    /// first, and stops at the first session that is also in the source's log.
     pub(crate) fn shared_with(&self, rep: &RepId, source: &Log) -> Option<(SessionId, u64)>
         ensures { result ≡ common source.now (log_of self.now rep.now) }
     {
@@ -154,7 +154,7 @@ impl Sessions {
     ///
     /// - `SessionExists`: there is a session with the given id.
     /// - `NoSuchBase`: the base is not a session of the same replication.
-    /// - `StartAboveBase`: the start exceeds the base's recorded sequence, or 0 if there is no base.
+    /// - `StartAboveBase`: the start exceeds the base's recorded sequence or, if there is no base, exceeds 0.
     /// - `GoalBelowStart`: the goal is below the start.
     /// - `Memory`: an allocation failed.
     pub(crate) fn begin(

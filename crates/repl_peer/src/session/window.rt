@@ -1,4 +1,4 @@
-//! The stored form of windows.
+//! How a session stores its windows in memory, with or without the leaves of their rows.
 ghost use Rattle.std.specs.Prelude.{◌≡◌, ◌<◌, true, length, is_some, IfOk, IfSome};
 ghost use Rattle.std.specs.List.{list_any, list_all};
 ghost use Rattle.std.specs.Str.{bytes_eq};
@@ -218,9 +218,9 @@ impl StoredWindow {
         }
     }
 
-    /// Drops the leaves of the window's rows, by replacing the rows with rows that have no leaves. The rows without
-    /// leaves are allocated now, unless `ReadyWindow::prepare` has already built them. If the rows without leaves
-    /// cannot be allocated, the window keeps its rows with their leaves.
+    /// Drops the leaves of the window's rows, by replacing the rows with rows that have no leaves. The call allocates
+    /// the rows without leaves, unless `ReadyWindow::prepare` has already built them. If the rows without leaves cannot
+    /// be allocated, the window keeps its rows with their leaves.
     pub(crate) fn let_leaves_go(&mut self, alloc: Global)
         ensures { self.new.window ≡ self.old.window }
     {
