@@ -348,7 +348,7 @@ fn copies_of_a_database(rt: HostRuntime) {
     const LAST: u64 = 9_007_199_254_740_991;
     // The index of the copy that has the same life (incarnation number) as the first database.
     const SAME: usize = 1;
-    // The index of the copy whose life differs from the life of the first database.
+    // The index of the first database's copy that has another life.
     const OTHER: usize = 2;
     // The index of a copy of the database `OTHER`.
     const LATEST: usize = 3;
