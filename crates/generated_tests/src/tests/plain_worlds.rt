@@ -327,6 +327,13 @@ impl Sessions {
         }
     }
 
+    /// Counts the results of merging a document's leaves (`take_leaves`).
+    fn count_all(&mut self, rt: &impl Abort, session: u128, rows: Vec<Option<Row>>) {
+        for row in rows {
+            self.count(rt, session, row);
+        }
+    }
+
     /// Whether a side (the plain model of a peer) covers each leaf of the window at an index.
     fn is_covered(&self, rt: &impl Abort, window: usize, side: &PlainSide) -> bool {
         covers(side, &self.windows.get(window).expect(rt, "a window").rows)
@@ -378,34 +385,32 @@ fn settle(
         return;
     };
     for number in 0..IDS {
-        let denied = deny == Some(number);
-        settle_document(
-            rt, alloc, target, sessions, session, fetched, number, denied,
-        );
+        let rows = take_leaves(rt, alloc, target, fetched, number, deny == Some(number));
+        sessions.count_all(rt, session, rows);
     }
     if sessions.is_covered(rt, window, target) {
         sessions.mark(rt, session, window, &fetched.asked);
     }
 }
 
-/// Settles (stores or rejects) leaves of one document at the target. A leaf is settled if its ancestry has a requested
-/// revision.
-fn settle_document(
+/// Merges leaves of one document into the target, and returns the ledger row of each leaf that the target refuses. A leaf
+/// is merged if its ancestry has a requested revision.
+fn take_leaves(
     rt: &impl Abort,
     alloc: Global,
     target: &mut PlainSide,
-    sessions: &mut Sessions,
-    session: u128,
     fetched: &Fetched,
     number: usize,
     denied: bool,
-) {
+) -> Vec<Option<Row>> {
     let tree = fetched.source.tree(number);
     let leaves = tree.leaves_above(rt, alloc, fetched.asked.leaves[number % IDS]);
+    let mut rows = Vec::new(alloc);
     for leaf in &leaves {
         let row = take_leaf(rt, alloc, target, number, &tree, *leaf, denied);
-        sessions.count(rt, session, row);
+        rows.push(row).expect(rt, "memory");
     }
+    rows
 }
 
 /// Returns the index of a session's entry in a log.
