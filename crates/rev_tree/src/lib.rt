@@ -13,7 +13,7 @@ mod origin;
 mod origins;
 mod place_index;
 mod revs;
-mod shared_nodes;
+mod stored;
 mod tournament;
 mod tree;
 mod walks;
