@@ -1,3 +1,4 @@
+pub mod Alone
 pub mod Answering
 pub mod Asking
 pub mod Edges
@@ -20,6 +21,7 @@ pub mod Tournaments
 pub mod Views
 pub mod Walking
 pub mod Winning
+pub use Alone.{IsLinked-single, agrees-single, alone_tree, ancestors-single, edges-single, lone_node, only_item}
 pub use Answering.{answer_known, answer_missed, changed_from_answer, is_told_same, none_from_answer, same_from_answer}
 pub use Asking.{IsAsked, above_itself, asked_at, asked_nowhere, only_is, skip_last, skip_step, told_from_asked, told_more}
 pub use Edges.{contradiction_here, edges_known, edges_missed, no_contradiction_at, told_contradiction, told_none}

@@ -13,6 +13,7 @@ mod origin;
 mod origins;
 mod place_index;
 mod revs;
+mod single_node;
 mod stored;
 mod tournament;
 mod tree;

@@ -1,16 +1,16 @@
 //! The stored form of a tree: the nodes, which trees share until one of the trees changes, and the origins.
-ghost use Rattle.std.specs.Prelude.{◌≡◌, ℕ, ◌+◌, ◌<◌, ◌≤◌, ◌^◌, [], Some, None, IfOk, IfErr, OnErr, OnOk, true, is_some, filter, length, map, slice_get, vec_capacity};
+ghost use Rattle.std.specs.Prelude.{◌≡◌, ℕ, ◌+◌, ◌<◌, ◌≤◌, ◌^◌, ◌⊎◌, ◌∷◌, [], Some, None, IfOk, IfErr, OnErr, OnOk, true, is_some, filter, length, map, slice_get, vec_capacity};
 ghost use Rattle.std.specs.Arc.{arc_value};
 ghost use Rattle.std.specs.FinMap.{get};
 ghost use Rattle.std.specs.List.{list_all};
-ghost use Rattle.std.specs.Option.{option_copied, option_map};
+ghost use Rattle.std.specs.Option.{option_copied};
 ghost use Rattle.rev_core.specs.Rev.{RevId};
 ghost use Rattle.rev_core.specs.Ancestry.{IsAncestry, edges_of, is_among};
 ghost use Rattle.rev_tree.specs.InOrder.{first_of};
 ghost use Rattle.rev_tree.specs.Tree.{IsTree, first_contradiction, has, has_edge, is_leaf, leaves, merged};
 ghost use Rattle.rev_tree.specs.Nodes.{IsLed, IsLinked, no_origin, node_of, place_of, revs_in, tree_of};
 ghost use Rattle.rev_tree.specs.Origins.{CanExtend, IsOfNodes, each, one, origin_at, small_origin};
-ghost use Rattle.rev_tree.specs.Stored.{IsAllOf, best_in, block_in, items_in, origins_in};
+ghost use Rattle.rev_tree.specs.Stored.{IsAllOf, best_in, held_in, is_listed, items_in, many, nothing, origins_in, owned_in, shared_in, only};
 ghost use Rattle.rev_tree.specs.Walks.{ancestors_at, is_above_one};
 
 use crate::content::Content;
@@ -19,6 +19,7 @@ use crate::node::Node;
 use crate::nodes::Nodes;
 use crate::origin::Origin;
 use crate::origins::{SmallOrigin, feed, fill, listed_at};
+use crate::single_node::Single;
 use rev_core::Rev;
 use std::alloc::{AllocError, Global};
 use std::marker::Model;
@@ -86,17 +87,35 @@ pub(crate) struct Stored {
     alloc: Global,
 }
 
-/// The forms in which a tree is stored: an empty tree, a tree with one origin of all revisions, as for most trees, or a
-/// tree with the origin of each node.
+/// The forms in which a tree is stored: an empty tree, a tree with one revision (`LocalOne`, `FeedOne`), a list of nodes
+/// whose revisions all have one origin (`Local`, `Feed`), or a list of nodes with the origin of each node.
 ///
-/// One enum holds the block and the origins, because an `Option<Arc<Block>>` beside an enum of the origins takes 8 bytes
-/// more.
+/// One enum holds the heap block and the origins, because an `Option` of an `Arc` beside an enum of the origins takes 8
+/// bytes more.
 #[derive(Drop)]
 pub(crate) enum Form {
     Empty,
+    LocalOne(Arc<Single>, u64),
+    FeedOne(Arc<Single>, u64, u64, u64),
     Local(Arc<Block>, u64),
     Feed(Arc<Block>, u64, u64, u64),
     Each(Arc<Block>, Vec<SmallOrigin>),
+}
+
+/// The heap block of a tree, if the tree has one. The block of a tree with one revision has only the node, without a
+/// list.
+#[derive(Drop)]
+enum Shared {
+    Nothing,
+    One(Arc<Single>),
+    Many(Arc<Block>),
+}
+
+/// A reference to the heap block of a tree, if the tree has one.
+enum Held<'a> {
+    Nothing,
+    One(&'a Arc<Single>),
+    Many(&'a Arc<Block>),
 }
 
 // `Drop` is implemented by hand, because derived code would be proved again in each crate that owns a value of this
@@ -108,21 +127,45 @@ impl Drop for Stored {
 }
 
 impl Model for Stored {
-    ghost use Rattle.rev_tree.specs.Stored.{StoredValue, best_in, block_in, items_in, origins_in};
+    ghost use Rattle.rev_tree.specs.Stored.{StoredValue, best_in, is_listed, items_in, origins_in, shared_in};
 
     ghost Value = { StoredValue };
 
     ghost view = { λ s. record {
-      items = items_in (block_in s.form);
+      items = items_in (shared_in s.form);
       origins = origins_in s.form;
-      best = best_in (block_in s.form);
+      best = best_in (shared_in s.form);
+      listed = is_listed (shared_in s.form);
     } };
 }
 
 impl Form {
+    /// Stores a heap block of nodes whose revisions all have one origin.
+    fn all(shared: Shared, origin: Origin) -> Form
+        ensures shared { shared_in result ≡ owned_in shared }
+        ensures origins { (owned_in shared ≡ nothing) ⊎ (origins_in result ≡ one origin) }
+    {
+        match shared {
+            Shared::Nothing => Form::Empty,
+            Shared::One(single) => Form::one(single, origin),
+            Shared::Many(block) => Form::many(block, origin),
+        }
+    }
+
+    /// Stores the only node of a tree.
+    fn one(single: Arc<Single>, origin: Origin) -> Form
+        ensures shared { shared_in result ≡ only (arc_value single) }
+        ensures origins { origins_in result ≡ one origin }
+    {
+        match SmallOrigin::of(origin) {
+            SmallOrigin::Local(number) => Form::LocalOne(single, number),
+            SmallOrigin::Feed(high, low, seq) => Form::FeedOne(single, high, low, seq),
+        }
+    }
+
     /// Stores a block of nodes whose revisions all have one origin.
-    fn all(block: Arc<Block>, origin: Origin) -> Form
-        ensures block { block_in result ≡ Some (arc_value block) }
+    fn many(block: Arc<Block>, origin: Origin) -> Form
+        ensures shared { shared_in result ≡ many (arc_value block) }
         ensures origins { origins_in result ≡ one origin }
     {
         match SmallOrigin::of(origin) {
@@ -131,15 +174,17 @@ impl Form {
         }
     }
 
-    /// Returns the block of nodes, unless the tree is empty.
-    fn into_block(self) -> Option<Arc<Block>>
-        ensures { option_map arc_value result ≡ block_in self }
+    /// Returns the heap block, if there is one.
+    fn into_shared(self) -> Shared
+        ensures { owned_in result ≡ shared_in self }
     {
         match self {
-            Form::Empty => None,
-            Form::Local(block, _) => Some(block),
-            Form::Feed(block, _, _, _) => Some(block),
-            Form::Each(block, _) => Some(block),
+            Form::Empty => Shared::Nothing,
+            Form::LocalOne(single, _) => Shared::One(single),
+            Form::FeedOne(single, _, _, _) => Shared::One(single),
+            Form::Local(block, _) => Shared::Many(block),
+            Form::Feed(block, _, _, _) => Shared::Many(block),
+            Form::Each(block, _) => Shared::Many(block),
         }
     }
 }
@@ -157,16 +202,19 @@ impl Stored {
         }
     }
 
-    /// Returns the block of nodes, unless the tree is empty.
-    fn block(&self) -> Option<&Block>
-        ensures items { items_in (option_copied result) ≡ self.now.items }
-        ensures best { best_in (option_copied result) ≡ self.now.best }
+    /// Returns the heap block, if there is one.
+    fn held(&self) -> Held<'_>
+        ensures items { items_in (held_in result) ≡ self.now.items }
+        ensures best { best_in (held_in result) ≡ self.now.best }
+        ensures listed { is_listed (held_in result) ≡ self.now.listed }
     {
         match &self.form {
-            Form::Empty => None,
-            Form::Local(block, _) => Some(block),
-            Form::Feed(block, _, _, _) => Some(block),
-            Form::Each(block, _) => Some(block),
+            Form::Empty => Held::Nothing,
+            Form::LocalOne(single, _) => Held::One(single),
+            Form::FeedOne(single, _, _, _) => Held::One(single),
+            Form::Local(block, _) => Held::Many(block),
+            Form::Feed(block, _, _, _) => Held::Many(block),
+            Form::Each(block, _) => Held::Many(block),
         }
     }
 
@@ -175,9 +223,21 @@ impl Stored {
         ensures items { result.now ≡ self.now.items }
         ensures linked { IsLinked self.now.items }
     {
-        match self.block() {
-            Some(block) => block.nodes.all(),
-            None => &[],
+        match self.held() {
+            Held::Nothing => &[],
+            Held::One(single) => single.nodes(),
+            Held::Many(block) => block.nodes.all(),
+        }
+    }
+
+    /// Returns the index of the winner's node.
+    fn best(&self) -> usize
+        ensures { result ≡ self.now.best }
+    {
+        match self.held() {
+            Held::Nothing => 0,
+            Held::One(_) => 0,
+            Held::Many(block) => block.best,
         }
     }
 
@@ -194,8 +254,7 @@ impl Stored {
     pub(crate) fn winner(&self) -> Option<Rev>
         ensures { result ≡ slice_get (revs_in self.now.items) self.now.best }
     {
-        let block = self.block()?;
-        let node = block.nodes.all().get(block.best)?;
+        let node = self.all().get(self.best())?;
         Some(node.to_rev())
     }
 
@@ -205,6 +264,8 @@ impl Stored {
     {
         match &self.form {
             Form::Empty => Origin::Local(0),
+            Form::LocalOne(_, number) => Origin::Local(*number),
+            Form::FeedOne(_, high, low, seq) => feed(*high, *low, *seq),
             Form::Local(_, number) => Origin::Local(*number),
             Form::Feed(_, high, low, seq) => feed(*high, *low, *seq),
             Form::Each(_, origins) => listed_at(origins, place),
@@ -216,20 +277,20 @@ impl Stored {
         ensures node { option_copied result ≡ node_of self.now.items rev.now }
         ensures linked { IsLinked self.now.items }
     {
-        match self.block() {
-            Some(block) => block.nodes.node_in(rev),
-            None => None,
-        }
+        let place = self.place_in(rev)?;
+        Some(self.node_at(place))
     }
 
     /// Returns the position of the node of a revision.
+    #[inline(never)]
     pub(crate) fn place_in(&self, rev: &Rev) -> Option<usize>
         ensures place { result ≡ place_of self.now.items rev.now }
         ensures linked { IsLinked self.now.items }
     {
-        match self.block() {
-            Some(block) => block.nodes.place_in(rev),
-            None => None,
+        match self.held() {
+            Held::Nothing => None,
+            Held::One(single) => single.place_in(rev),
+            Held::Many(block) => block.nodes.place_in(rev),
         }
     }
 
@@ -239,9 +300,10 @@ impl Stored {
         requires tree { IsTree (tree_of self.now.items) }
         ensures { IfOk result (λ v. v.items ≡ ancestors_at self.now.items start) }
     {
-        match self.block() {
-            Some(block) => block.nodes.walk(alloc, start),
-            None => unreachable!(),
+        match self.held() {
+            Held::Nothing => unreachable!(),
+            Held::One(single) => single.walk(alloc),
+            Held::Many(block) => block.nodes.walk(alloc, start),
         }
     }
 
@@ -251,9 +313,10 @@ impl Stored {
         requires tree { IsTree (tree_of self.now.items) }
         ensures { result ≡ slice_get (ancestors_at self.now.items start) steps }
     {
-        match self.block() {
-            Some(block) => block.nodes.ancestor_at(start, steps),
-            None => unreachable!(),
+        match self.held() {
+            Held::Nothing => unreachable!(),
+            Held::One(single) => single.ancestor_at(steps),
+            Held::Many(block) => block.nodes.ancestor_at(start, steps),
         }
     }
 
@@ -271,9 +334,13 @@ impl Stored {
             → has (tree_of self.now.items) r ≡ true }
         ensures { IfOk result (λ v. v.items ≡ filter (is_above_one (tree_of self.now.items) revs.now) leaves.now) }
     {
-        match self.block() {
-            Some(block) => block.nodes.those_above(alloc, leaves, revs),
-            None => Nodes::new(alloc).those_above(alloc, leaves, revs),
+        match self.held() {
+            Held::Nothing => Nodes::new(alloc).those_above(alloc, leaves, revs),
+            Held::One(single) => {
+                let nodes = single.to_nodes(alloc, &[])?;
+                nodes.those_above(alloc, leaves, revs)
+            }
+            Held::Many(block) => block.nodes.those_above(alloc, leaves, revs),
         }
     }
 
@@ -288,9 +355,10 @@ impl Stored {
         ensures contradiction { IfErr result
             (λ c. first_contradiction (tree_of self.now.items).parents (edges_of revs.now) ≡ Some c) }
     {
-        match self.block() {
-            Some(block) => block.nodes.knows_edges(revs),
-            None => Nodes::new(self.alloc).knows_edges(revs),
+        match self.held() {
+            Held::Nothing => Nodes::new(self.alloc).knows_edges(revs),
+            Held::One(single) => Ok(single.knows_edges(revs)),
+            Held::Many(block) => block.nodes.knows_edges(revs),
         }
     }
 
@@ -308,7 +376,7 @@ impl Stored {
         true
     }
 
-    /// Returns a copy, which shares the block of nodes.
+    /// Returns a copy, which shares the heap block.
     pub(crate) fn copy(&self, alloc: Global) -> Result<Stored, AllocError>
         ensures items { IfOk result (λ s. s.items ≡ self.now.items) }
         ensures best { IfOk result (λ s. s.best ≡ self.now.best) }
@@ -317,6 +385,10 @@ impl Stored {
     {
         let form = match &self.form {
             Form::Empty => Form::Empty,
+            Form::LocalOne(single, number) => Form::LocalOne(Arc::try_clone(single)?, *number),
+            Form::FeedOne(single, high, low, seq) => {
+                Form::FeedOne(Arc::try_clone(single)?, *high, *low, *seq)
+            }
             Form::Local(block, number) => Form::Local(Arc::try_clone(block)?, *number),
             Form::Feed(block, high, low, seq) => {
                 Form::Feed(Arc::try_clone(block)?, *high, *low, *seq)
@@ -333,17 +405,16 @@ impl Stored {
         })
     }
 
-    /// Returns the same nodes in the same block. Each revision has the given origin.
+    /// Returns the same nodes in the same heap block. Each revision has the given origin.
     pub(crate) fn share_as(&self, origin: Origin) -> Result<Stored, AllocError>
         ensures items { IfOk result (λ s. s.items ≡ self.now.items) }
         ensures best { IfOk result (λ s. s.best ≡ self.now.best) }
         ensures all { IfOk result (λ s. IsAllOf s origin) }
     {
-        let form = match &self.form {
-            Form::Empty => Form::Empty,
-            Form::Local(block, _) => Form::all(Arc::try_clone(block)?, origin),
-            Form::Feed(block, _, _, _) => Form::all(Arc::try_clone(block)?, origin),
-            Form::Each(block, _) => Form::all(Arc::try_clone(block)?, origin),
+        let form = match self.held() {
+            Held::Nothing => Form::Empty,
+            Held::One(single) => Form::one(Arc::try_clone(single)?, origin),
+            Held::Many(block) => Form::many(Arc::try_clone(block)?, origin),
         };
         Ok(Stored {
             form,
@@ -358,9 +429,7 @@ impl Stored {
         ensures all { IsAllOf self.new origin }
     {
         let form = replace(&mut self.form, Form::Empty);
-        if let Some(block) = form.into_block() {
-            self.form = Form::all(block, origin);
-        }
+        self.form = Form::all(form.into_shared(), origin);
     }
 
     /// Inserts an ancestry with its content. New revisions get the given origin. If the block has another owner, the
@@ -392,10 +461,32 @@ impl Stored {
         if known == 0 {
             return self.insert_first(revs, content, origin);
         }
+        self.list_node(revs)?;
         self.reserve_origins(known, revs.len(), origin)?;
         self.insert_nodes(revs, content)?;
         let count = self.all().len() - known;
         self.extend_origins(known, count, origin);
+        Ok(())
+    }
+
+    /// Moves the node of a tree with one revision to a list with space for those revisions of `revs` that have no node.
+    fn list_node(&mut self, revs: &[Rev]) -> Result<(), AllocError>
+        ensures items { self.new.items ≡ self.old.items }
+        ensures best { self.new.best ≡ self.old.best }
+        ensures origins { self.new.origins ≡ self.old.origins }
+        ensures listed { OnOk result (0 < length self.old.items → self.new.listed ≡ true) }
+    {
+        let form = match &self.form {
+            Form::LocalOne(single, number) => Form::Local(
+                listed(self.alloc, single, revs)?,
+                *number,
+            ),
+            Form::FeedOne(single, high, low, seq) => {
+                Form::Feed(listed(self.alloc, single, revs)?, *high, *low, *seq)
+            }
+            _ => return Ok(()),
+        };
+        self.form = form;
         Ok(())
     }
 
@@ -415,16 +506,41 @@ impl Stored {
         ensures origins { OnOk result (self.new.origins ≡ one origin) }
         ensures err { OnErr result (self.new ≡ self.old) }
     {
+        if revs.len() == 1 {
+            return self.insert_only(revs, content, origin);
+        }
         let mut block = Block::new(self.alloc);
         block.insert(revs, content)?;
-        self.form = Form::all(Arc::new(self.alloc, block)?, origin);
+        self.form = Form::many(Arc::new(self.alloc, block)?, origin);
+        Ok(())
+    }
+
+    /// Inserts a revision without ancestors, with its content, into an empty tree. The revision gets the given origin.
+    fn insert_only(
+        &mut self,
+        revs: &[Rev],
+        content: Content,
+        origin: Origin,
+    ) -> Result<(), AllocError>
+        requires empty { self.old.items ≡ [] }
+        requires only { length revs.now ≡ 1 }
+        requires ancestry { IsAncestry revs.now }
+        requires none { first_contradiction (tree_of self.old.items).parents (edges_of revs.now) ≡ None }
+        ensures tree { OnOk result (tree_of self.new.items ≡ merged (tree_of self.old.items) revs.now content no_origin) }
+        ensures best { OnOk result (slice_get (revs_in self.new.items) self.new.best
+            ≡ first_of (leaves (tree_of self.new.items))) }
+        ensures origins { OnOk result (self.new.origins ≡ one origin) }
+        ensures err { OnErr result (self.new ≡ self.old) }
+    {
+        let single = Single::new(self.alloc, &revs[0], content)?;
+        self.form = Form::one(Arc::new(self.alloc, single)?, origin);
         Ok(())
     }
 
     /// Inserts an ancestry with its content into a tree with revisions. If the block has another owner, the call copies
     /// the nodes first.
     fn insert_nodes(&mut self, revs: &[Rev], content: Content) -> Result<(), AllocError>
-        requires some { 0 < length self.old.items }
+        requires listed { self.old.listed ≡ true }
         requires led { IsLed self.old.items self.old.best }
         requires ancestry { IsAncestry revs.now }
         requires none { first_contradiction (tree_of self.old.items).parents (edges_of revs.now) ≡ None }
@@ -441,10 +557,10 @@ impl Stored {
     {
         let alloc = self.alloc;
         match &mut self.form {
-            Form::Empty => unreachable!(),
             Form::Local(block, _) => insert_shared(alloc, block, revs, content),
             Form::Feed(block, _, _, _) => insert_shared(alloc, block, revs, content),
             Form::Each(block, _) => insert_shared(alloc, block, revs, content),
+            _ => unreachable!(),
         }
     }
 
@@ -456,11 +572,12 @@ impl Stored {
         more: usize,
         origin: Origin,
     ) -> Result<(), AllocError>
-        requires some { 0 < length self.old.items }
+        requires listed { self.old.listed ≡ true }
         requires few { known + more < 2 ^ 64 }
         requires nodes { IsOfNodes self.old.origins known }
         ensures items { self.new.items ≡ self.old.items }
         ensures best { self.new.best ≡ self.old.best }
+        ensures listed { self.new.listed ≡ true }
         ensures ok { OnOk result (CanExtend self.new.origins known more origin) }
         ensures at { (i : ℕ) → i < known → origin_at self.new.origins i ≡ origin_at self.old.origins i }
         ensures nodes { IsOfNodes self.new.origins known }
@@ -478,17 +595,18 @@ impl Stored {
         Ok(())
     }
 
-    /// Stores the given origins of the nodes of a tree with revisions.
+    /// Stores the given origins of a list of nodes.
     fn list_origins(&mut self, origins: Vec<SmallOrigin>)
-        requires some { 0 < length self.old.items }
+        requires listed { self.old.listed ≡ true }
         ensures items { self.new.items ≡ self.old.items }
         ensures best { self.new.best ≡ self.old.best }
+        ensures listed { self.new.listed ≡ true }
         ensures origins { self.new.origins ≡ each (map small_origin origins.items) (vec_capacity origins) }
     {
         let form = replace(&mut self.form, Form::Empty);
-        match form.into_block() {
-            Some(block) => self.form = Form::Each(block, origins),
-            None => unreachable!(),
+        match form.into_shared() {
+            Shared::Many(block) => self.form = Form::Each(block, origins),
+            _ => unreachable!(),
         }
     }
 
@@ -538,4 +656,14 @@ fn insert_shared(
             Ok(())
         }
     }
+}
+
+/// Copies the node of a tree with one revision to a block with a list of nodes. The list has space for those revisions
+/// of `revs` that have no node.
+fn listed(alloc: Global, single: &Single, revs: &[Rev]) -> Result<Arc<Block>, AllocError>
+    ensures items { IfOk result (λ b. (arc_value b).nodes.items ≡ single.now ∷ []) }
+    ensures best { IfOk result (λ b. (arc_value b).best ≡ 0) }
+{
+    let nodes = single.to_nodes(alloc, revs)?;
+    Ok(Arc::new(alloc, Block { nodes, best: 0 })?)
 }

@@ -9,6 +9,7 @@ overflow_sub-count c =
       arith,
       kept_longer _ _ c.in_ok-insert_nodes.ensures.kept,
       ap length c.all-known.ensures.items,
+      ap length c.in_ok-list_node.ensures.items,
       ap length c.in_ok-reserve_origins.ensures.items,
       ap length c.all.ensures.items,
       length-revs_in c.reserve_origins.new.self.items,
@@ -18,7 +19,7 @@ overflow_sub-count c =
 pub returns-clause-kept : goal.returns-clause-kept
 returns-clause-kept c i r h =
     ap (λ l. slice_get (revs_in l) i) c.extend_origins.ensures.items
-    ∙ c.in_ok-insert_nodes.ensures.kept i r (ap (λ l. slice_get (revs_in l) i) c.in_ok-reserve_origins.ensures.items ∙ h)
+    ∙ c.in_ok-insert_nodes.ensures.kept i r (ap (λ l. slice_get (revs_in l) i) (c.in_ok-reserve_origins.ensures.items ∙ c.in_ok-list_node.ensures.items) ∙ h)
 
 pub returns-clause-nodes : goal.returns-clause-nodes
 returns-clause-nodes c =
@@ -27,6 +28,7 @@ returns-clause-nodes c =
       arith,
       kept_longer _ _ c.in_ok-insert_nodes.ensures.kept,
       ap length c.all-known.ensures.items,
+      ap length c.in_ok-list_node.ensures.items,
       ap length c.in_ok-reserve_origins.ensures.items,
       ap length c.all.ensures.items,
       ap length c.extend_origins.ensures.items,
