@@ -1,3 +1,4 @@
+pub mod Alone
 pub mod Answering
 pub mod Asking
 pub mod Edges
@@ -20,6 +21,7 @@ pub mod Tournaments
 pub mod Views
 pub mod Walking
 pub mod Winning
+pub use Alone.{IsLinked-single, agrees-single, alone_tree, ancestors-single, edges-single, lone_node, only_item}
 pub use Answering.{answer_known, answer_missed, changed_from_answer, is_told_same, none_from_answer, same_from_answer}
 pub use Asking.{IsAsked, above_itself, asked_at, asked_nowhere, only_is, skip_last, skip_step, told_from_asked, told_more}
 pub use Edges.{contradiction_here, edges_known, edges_missed, no_contradiction_at, told_contradiction, told_none}
@@ -36,7 +38,7 @@ pub use Places.{is_some-node_of, node_at, none_of, place_at, place_known, place_
 pub use Places.{slice_get-append, slice_get-last}
 pub use Putting.{IsPut, blocks_first, blocks_next, child_at, next_unplaced, put_end, put_next, put_start, room_first, room_for, room_next, standing}
 pub use Rooms.{all_new, count_next, count_within, fewer_new, known_counts_not, new_counts}
-pub use Sharing.{IsScanned, all_scanned, only_leaves, other_origin, scanned_first, scanned_more, shared_leaf, single}
+pub use Sharing.{IsScanned, all_scanned, all_shown, only_leaves, other_origin, scanned_first, scanned_more, shared_leaf, single}
 pub use Showing.{IsTree-shows, grown, kept_longer, leaves_shown, length-shown, origin_is, same_shown, shows, stored_shows, stored_tree}
 pub use Sorting.{leaves_in_order, pair_cmp, pair_cmp_total, told, told_deleted}
 pub use Starts.{IsIndexed-none, IsLinked-none}

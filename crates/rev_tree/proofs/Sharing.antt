@@ -2,12 +2,12 @@
 use Rattle.proof_prelude.proofs.{◌≡◌, ℕ, ◌+◌, ◌<◌, ◌≤◌, List, [], ◌∷◌, map, length, Option, Some, None, Bool, true, false, not, cond, is_some, sym, ap, ◌∙◌, refl, false≢true, eq_by_cmp, option_map, option_or, slice_get, same_Some, get, get-empty, empty, same_map, ◌||◌, ◌&&◌, or_cases, arith, cases_lt, Bor, option_copied, inl, inr, cases_Bool}
 use Rattle.std.specs.FinMap.{find}
 use Rattle.rev_core.specs.{RevId, rev_cmp, rev_cmp_total, rev_cmp_exact, is_among, rev_tie_is, rev_tie_self}
-use Rattle.rev_tree.specs.{ContentValue, TreeValue, IsTree, ancestors, ancestors_self, at_head, has, is_leaf, joined, leaves, merged, no_revisions, only_of, get-joined, has-merged, is_among-leaves, given, nothing_is_part, part_merged, whole_part, IsLinked, IsStored, NodeValue, Origin, OriginsValue, node_of, one, place_of, shown, tree_of}
+use Rattle.rev_tree.specs.{ContentValue, TreeValue, IsTree, ancestors, ancestors_self, at_head, has, is_leaf, joined, leaves, merged, no_revisions, only_of, get-joined, has-merged, is_among-leaves, given, nothing_is_part, part_merged, whole_part, IsAllOf, IsLinked, IsStored, NodeValue, Origin, OriginsValue, node_of, one, place_of, shown, StoredValue, tree_of}
 use Rattle.rev_tree.specs.Tree.{SameRevisions}
 use Rattle.rev_tree.specs.PartLaws.{at_leaf, given_is, walk_begins}
 use Rattle.rev_tree.proofs.Places.{none_of, place_known, place_none}
 use Rattle.rev_tree.proofs.Lookups.{Shows, content_is, leaf_is, parent_shown, shows_itself}
-use Rattle.rev_tree.proofs.Showing.{find_same, get-labelled, has-place, shows, stored_tree}
+use Rattle.rev_tree.proofs.Showing.{find_same, get-labelled, has-place, same_shown, shows, stored_tree}
 
 empty_or : {X : Type 0} (q : RevId) (o : Option X) → option_or (get (empty {X = X} {R = rev_cmp}) q) o ≡ o
 empty_or q o = ap (λ x. option_or x o) (get-empty rev_cmp q)
@@ -37,6 +37,10 @@ other_origin nodes os t revs b old o linked view is =
     let all = shows nodes os t linked view in
     relabelled nodes revs b o linked (λ q. all.has q ∙ ap (λ u. has u q) is ∙ has-made revs b old q)
     (all.parents ∙ ap (λ (u : TreeValue). u.parents) is) (all.contents ∙ ap (λ (u : TreeValue). u.contents) is)
+
+-- a stored tree with one origin of all revisions
+pub all_shown : (s : StoredValue) (nodes : List NodeValue) (o : Origin) → s.items ≡ nodes → IsAllOf s o → shown s.items s.origins ≡ shown nodes (one o)
+all_shown s nodes o is all = same_shown s.items (one o) s.origins all.at ∙ ap (λ l. shown l (one o)) is
 
 -- ---- contents of leaves only
 

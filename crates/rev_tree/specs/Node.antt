@@ -1,5 +1,5 @@
 -- This file defines a node of a revision tree, and how the parts of the node are stored.
-use Rattle.std.specs.Prelude.{ℕ, zero, suc, Bool, false, Option, Some, None}
+use Rattle.std.specs.Prelude.{◌≡◌, ℕ, zero, suc, Bool, false, Option, Some, None}
 use Rattle.rev_core.specs.Rev.{RevId}
 use Rattle.rev_tree.specs.Content.{ContentValue}
 use Rattle.rev_tree.specs.declared.node.Known.{Known}
@@ -16,6 +16,11 @@ pub record NodeValue : Type 0 where
 -- A new node of revision r. The node has no parent, no content and no child.
 abbrev pub new_node : RevId → NodeValue
 new_node r = record { rev = r; parent = None; content = None; has_child = false }
+
+-- Node n is the only node of a tree, so n has no parent and no child.
+pub record IsSingle (n : NodeValue) : Type 0 where
+  pub parent : n.parent ≡ None
+  pub child : n.has_child ≡ false
 
 -- Whether a node has a child, decoded from the node's stored form.
 abbrev pub has_child_of : Known → Bool

@@ -116,9 +116,6 @@ pub record NodesValue : Type 0 where
   pub capacity : ℕ
   pub index_capacity : ℕ
 
-abbrev pub no_nodes : NodesValue
-no_nodes = record { items = []; capacity = 0; index_capacity = 0 }
-
 -- The list of nodes v has space for `more` further nodes. A list that is too long to be scanned needs an index. If the
 -- list is too long to be scanned after adding `more` nodes, the index has space for an entry of each node.
 pub record HasRoom (v : NodesValue) (more : ℕ) : Type 0 where

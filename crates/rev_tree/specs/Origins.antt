@@ -1,5 +1,5 @@
 -- Defines how a tree stores the origins of its revisions, and the tree that nodes and origins represent.
-use Rattle.std.specs.Prelude.{◌≡◌, ℕ, ◌+◌, ◌*◌, ◌^◌, ◌≤◌, List, map, length, get_or, vec_capacity}
+use Rattle.std.specs.Prelude.{◌≡◌, ℕ, ◌+◌, ◌*◌, ◌^◌, ◌≤◌, List, map, length, get_or}
 use Rattle.std.specs.FinMap as finmap
 use Rattle.rev_core.specs.Rev.{RevId}
 use Rattle.rev_tree.specs.Nodes.{IsLed, IsLinked, no_origin, places_from, revs_in, tree_of}
@@ -9,8 +9,6 @@ use Rattle.rev_tree.specs.declared.origin.Origin.{Origin}
 use Rattle.rev_tree.specs.declared.origin.Origin.TheVariants.{Local, Feed}
 use Rattle.rev_tree.specs.declared.origins.SmallOrigin.{SmallOrigin}
 use Rattle.rev_tree.specs.declared.origins.SmallOrigin.TheVariants as small
-use Rattle.rev_tree.specs.declared.origins.Form.{Form}
-use Rattle.rev_tree.specs.declared.origins.Form.TheVariants as form
 
 -- The origins of a tree's revisions: one origin of all revisions, or the origin of each node and the number of origins
 -- that can be stored without allocating.
@@ -25,11 +23,6 @@ feed_origin high low seq = Feed (record { 0 = high * 2 ^ 64 + low }) seq
 abbrev pub small_origin : SmallOrigin → Origin
 small_origin (small.Local number) = Local number
 small_origin (small.Feed high low seq) = feed_origin high low seq
-
-abbrev pub stored_origins : Form → OriginsValue
-stored_origins (form.Local number) = one (Local number)
-stored_origins (form.Feed high low seq) = one (feed_origin high low seq)
-stored_origins (form.Each v) = each (map small_origin v.items) (vec_capacity v)
 
 -- The origin of the node at position i.
 abbrev pub origin_at : OriginsValue → ℕ → Origin

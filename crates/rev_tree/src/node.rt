@@ -12,7 +12,7 @@ use std::alloc::{AllocError, Global};
 use std::marker::Model;
 
 /// A node: a revision, whether the revision has a child, the index of its parent, and its content. The origins of a
-/// tree's revisions are stored by the tree (`Origins`).
+/// tree's revisions are stored by the tree (`Stored`).
 ///
 /// A tree may have millions of nodes, so a node is small.
 #[derive(Drop)]

@@ -1,6 +1,5 @@
 //! The nodes of a tree, and the lookup of a node by its revision.
 ghost use Rattle.std.specs.Prelude.{◌≡◌, ℕ, ◌+◌, ◌<◌, ◌≤◌, ◌⊎◌, ◌∷◌, ◌++◌, [], Some, None, IfOk, IfSome, OnOk, slice_get, length, take, drop, true, nat_eq, nat_lt, vec_capacity, vec_len};
-ghost use Rattle.std.specs.Option.{option_copied};
 ghost use Rattle.rev_core.specs.Rev.{RevId};
 ghost use Rattle.rev_core.specs.SmallRev.{blocks_of};
 ghost use Rattle.rev_tree.specs.Node.{new_node};
@@ -17,6 +16,7 @@ use rev_core::{Rev, Sig, SmallRev};
 use std::alloc::{AllocError, Global};
 use std::hash::{FoldHasher, Hasher};
 use std::marker::Model;
+use std::slice::from_ref;
 
 /// The maximum number of nodes that a lookup scans. A tree with more nodes has an index, unless each node is one
 /// generation below the previous node.
@@ -30,7 +30,7 @@ const MOST_COUNTED: usize = 4;
 const MOST_NODES: usize = u32::MAX as usize;
 
 ghost use Rattle.rev_tree.specs.Index.{falls, index_for, mark_of, noted_from};
-ghost use Rattle.rev_tree.specs.Nodes.{Distinct, HasGained, HasRoom, IsLinked, count_blocks, count_new, node_of, place_of, revs_in, tree_of, unless_among};
+ghost use Rattle.rev_tree.specs.Nodes.{Distinct, HasGained, HasRoom, IsLinked, count_blocks, count_new, place_of, revs_in, tree_of, unless_among};
 
 /// Nodes with their index. A tree never removes a node, so the positions of nodes do not change.
 ///
@@ -69,6 +69,20 @@ impl Nodes {
         }
     }
 
+    /// Creates a list with one node, and space for those revisions of `revs` that have no node.
+    pub(crate) fn of_one(alloc: Global, node: Node, revs: &[Rev]) -> Result<Nodes, AllocError>
+        requires { IsLinked (node ∷ []) }
+        ensures { IfOk result (λ n. n.items ≡ node ∷ []) }
+    {
+        let more = count_new(from_ref(&node), revs).min(revs.len());
+        let mut list = Vec::with_capacity(alloc, 1 + more)?;
+        list.push_reserved(node);
+        Ok(Nodes {
+            list,
+            places: Places::new(),
+        })
+    }
+
     /// Returns the nodes.
     pub(crate) fn all(&self) -> &[Node]
         ensures items { result.now ≡ self.now.items }
@@ -84,15 +98,6 @@ impl Nodes {
         ensures linked { IsLinked self.now.items }
     {
         &self.list[place]
-    }
-
-    /// Returns the node of a revision.
-    pub(crate) fn node_in(&self, rev: &Rev) -> Option<&Node>
-        ensures node { option_copied result ≡ node_of self.now.items rev.now }
-        ensures linked { IsLinked self.now.items }
-    {
-        let place = self.place_in(rev)?;
-        Some(self.node_at(place))
     }
 
     /// Returns the position of the node of a revision.
@@ -411,7 +416,7 @@ fn long_blocks(alloc: Global, revs: &[Rev]) -> Result<Vec<Box<Sig>>, AllocError>
 }
 
 /// Allocates a heap block for a revision, and appends the block to a list.
-fn push_block(blocks: &mut Vec<Box<Sig>>, rev: &Rev) -> Result<(), AllocError>
+pub(crate) fn push_block(blocks: &mut Vec<Box<Sig>>, rev: &Rev) -> Result<(), AllocError>
     ensures { OnOk result (length blocks.new.items ≡ length blocks.old.items + 1) }
 {
     let block = Box::new(*blocks.allocator(), rev.sig())?;

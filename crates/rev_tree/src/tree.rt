@@ -9,9 +9,8 @@ use crate::content::Content;
 use crate::fault::{Contradiction, Merged, TreeFault};
 use crate::leaf::Leaf;
 use crate::origin::Origin;
-use crate::origins::Origins;
 use crate::revs::Revs;
-use crate::shared_nodes::SharedNodes;
+use crate::stored::Stored;
 use crate::winner::is_deleted;
 use rev_core::{Ancestry, Rev, SmallRev};
 use std::alloc::{AllocError, Global};
@@ -26,23 +25,17 @@ pub struct RevInfo<'a> {
 
 /// The revisions of a document with their parents, contents and origins.
 ///
-/// Each revision is stored as a node, which has the index of the parent's node. The tree stores the origins of the
-/// nodes, and the index of the winner's node.
+/// Each revision is stored as a node, which has the index of the parent's node. The tree stores the nodes, the origins
+/// of their revisions, and the index of the winner's node.
 pub struct Tree {
-    nodes: SharedNodes,
-    origins: Origins,
-    best: usize,
+    stored: Stored,
 }
 
 // `Drop` is implemented by hand, because derived code would be proved again in each crate that owns a value of this
 // type (docs/DECISIONS.md, "Letting values go").
 impl Drop for Tree {
     fn drop(self) {
-        let Tree {
-            nodes: _,
-            origins: _,
-            best: _,
-        } = self;
+        let Tree { stored: _ } = self;
     }
 }
 
@@ -55,9 +48,9 @@ impl Model for Tree {
 
     ghost use Rattle.rev_tree.specs.Origins.{IsStored, shown};
 
-    ghost view = { λ t. shown t.nodes.items t.origins };
+    ghost view = { λ t. shown t.stored.items t.stored.origins };
 
-    ghost invariant = { λ t. IsStored t.nodes.items t.origins t.best };
+    ghost invariant = { λ t. IsStored t.stored.items t.stored.origins t.stored.best };
 }
 
 impl Tree {
@@ -70,9 +63,7 @@ impl Tree {
         ensures { result ≡ no_revisions }
     {
         Tree {
-            nodes: SharedNodes::new(alloc),
-            origins: Origins::all(Origin::Local(0)),
-            best: 0,
+            stored: Stored::new(alloc),
         }
     }
 
@@ -81,23 +72,23 @@ impl Tree {
         ensures found { result ≡ has self.now rev }
         ensures tree { IsTree self.now }
     {
-        self.nodes.node_in(&rev).is_some()
+        self.stored.node_in(&rev).is_some()
     }
 
     /// Returns the parent of a revision, if the tree knows the parent.
     pub fn parent_of(&self, rev: Rev) -> Option<Rev>
         ensures { result ≡ get self.now.parents rev }
     {
-        let node = self.nodes.node_in(&rev)?;
+        let node = self.stored.node_in(&rev)?;
         let parent = node.parent()?;
-        Some(self.nodes.node_at(parent).to_rev())
+        Some(self.stored.node_at(parent).to_rev())
     }
 
     /// Returns the content of a revision, if the tree knows the content.
     pub fn content(&self, rev: Rev) -> Option<&Content>
         ensures { option_copied result ≡ get self.now.contents rev }
     {
-        let node = self.nodes.node_in(&rev)?;
+        let node = self.stored.node_in(&rev)?;
         node.content()
     }
 
@@ -105,15 +96,15 @@ impl Tree {
     pub fn origin(&self, rev: Rev) -> Option<Origin>
         ensures { result ≡ get self.now.origins rev }
     {
-        let place = self.nodes.place_in(&rev)?;
-        Some(self.origins.at(place))
+        let place = self.stored.place_in(&rev)?;
+        Some(self.stored.origin_at(place))
     }
 
     /// Whether a revision is a leaf.
     pub fn is_leaf(&self, rev: Rev) -> bool
         ensures { result ≡ is_leaf self.now rev }
     {
-        let Some(node) = self.nodes.node_in(&rev) else {
+        let Some(node) = self.stored.node_in(&rev) else {
             return false;
         };
         !node.has_child()
@@ -144,10 +135,10 @@ impl Tree {
         requires { has self.now rev ≡ true }
         ensures { IfOk result (λ a. a ≡ ancestors self.now rev) }
     {
-        let Some(place) = self.nodes.place_in(&rev) else {
+        let Some(place) = self.stored.place_in(&rev) else {
             unreachable!()
         };
-        let revs = self.nodes.walk(alloc, place)?;
+        let revs = self.stored.walk(alloc, place)?;
         Ok(Ancestry::from_revs(revs))
     }
 
@@ -157,10 +148,10 @@ impl Tree {
         requires { has self.now rev ≡ true }
         ensures { result ≡ slice_get (ancestors self.now rev) place }
     {
-        let Some(start) = self.nodes.place_in(&rev) else {
+        let Some(start) = self.stored.place_in(&rev) else {
             unreachable!()
         };
-        self.nodes.ancestor_at(start, place)
+        self.stored.ancestor_at(start, place)
     }
 
     /// Returns the ancestors and the content of a revision, with one lookup, or `None` if the revision is not in the
@@ -169,13 +160,13 @@ impl Tree {
         ensures { IfOk result
             (λ o. MatchOption o (has self.now rev ≡ false) (λ s. IsStanding self.now rev s.ancestry (option_copied s.content))) }
     {
-        let Some(place) = self.nodes.place_in(&rev) else {
+        let Some(place) = self.stored.place_in(&rev) else {
             return Ok(None);
         };
-        let revs = self.nodes.walk(alloc, place)?;
+        let revs = self.stored.walk(alloc, place)?;
         Ok(Some(RevInfo {
             ancestry: Ancestry::from_revs(revs),
-            content: self.nodes.node_at(place).content(),
+            content: self.stored.node_at(place).content(),
         }))
     }
 
@@ -183,7 +174,7 @@ impl Tree {
     pub fn winner(&self) -> Option<Rev>
         ensures { result ≡ first_of (leaves self.now) }
     {
-        self.nodes.rev_at(self.best)
+        self.stored.winner()
     }
 
     /// Returns the leaves, winner first. The call does not allocate if the tree has only one leaf.
@@ -202,7 +193,7 @@ impl Tree {
         ensures { option_copied result ≡ only_of (leaves self.now) }
     {
         let mut found = None;
-        for node in self.nodes.all() {
+        for node in self.stored.all() {
             if !node.has_child() {
                 if found.is_some() {
                     return None;
@@ -219,7 +210,7 @@ impl Tree {
         ensures { IfOk result (λ v. v.items ≡ leaves self.now) }
     {
         let mut found = Vec::with_capacity(alloc, self.leaf_count())?;
-        for node in self.nodes.all() {
+        for node in self.stored.all() {
             if !node.has_child() {
                 found.push(Leaf::new(is_deleted(node), node.rev()))?;
             }
@@ -233,7 +224,7 @@ impl Tree {
         ensures { result ≡ length (leaves self.now) }
     {
         let mut count = 0;
-        for node in self.nodes.all() {
+        for node in self.stored.all() {
             if !node.has_child() {
                 count += 1;
             }
@@ -245,7 +236,7 @@ impl Tree {
     pub fn rev_count(&self) -> usize
         ensures { result ≡ len self.now.origins }
     {
-        self.nodes.all().len()
+        self.stored.all().len()
     }
 
     /// Returns the leaves that are equal to, or descend from, one of the given revisions, winner first.
@@ -261,7 +252,7 @@ impl Tree {
             }
         }
         let leaves = self.leaves(alloc)?;
-        Ok(Revs::from(self.nodes.those_above(alloc, &leaves, revs)?))
+        Ok(Revs::from(self.stored.those_above(alloc, &leaves, revs)?))
     }
 
     /// Returns the given revisions that are not in the tree, in the given order. The call does not allocate if only one
@@ -297,13 +288,8 @@ impl Tree {
         ensures copied { IfOk result (λ t. t ≡ self.now) }
         ensures tree { IsTree self.now }
     {
-        let nodes = self.nodes.share()?;
-        let origins = self.origins.copy(alloc)?;
-        Ok(Tree {
-            nodes,
-            origins,
-            best: self.best,
-        })
+        let stored = self.stored.copy(alloc)?;
+        Ok(Tree { stored })
     }
 
     /// Returns a tree with the ancestry and the content of this tree's only leaf. The returned tree shares the nodes of
@@ -319,15 +305,11 @@ impl Tree {
         if self.only_leaf().is_none() {
             return Ok(None);
         }
-        if !self.nodes.only_leaves_have_contents() {
+        if !self.stored.only_leaves_have_contents() {
             return Ok(None);
         }
-        let nodes = self.nodes.share()?;
-        Ok(Some(Tree {
-            nodes,
-            origins: Origins::all(origin),
-            best: self.best,
-        }))
+        let stored = self.stored.share_as(origin)?;
+        Ok(Some(Tree { stored }))
     }
 
     /// Replaces the origin of each revision.
@@ -337,7 +319,7 @@ impl Tree {
             → self.new ≡ merged no_revisions revs content origin }
         ensures tree { IsTree self.new }
     {
-        self.origins = Origins::all(origin);
+        self.stored.set_origin(origin);
     }
 
     /// Returns the result that merging the ancestry would have, without merging and without allocating. The result is
@@ -351,7 +333,7 @@ impl Tree {
         ensures answer { result ≡ merge_answer self.now ancestry.now }
         ensures tree { IsTree self.now }
     {
-        match self.nodes.knows_edges(ancestry.revs()) {
+        match self.stored.knows_edges(ancestry.revs()) {
             Ok(all) => {
                 if all && self.content(ancestry.head()).is_some() {
                     Ok(Merged::Same)
@@ -420,13 +402,9 @@ impl Tree {
         ensures tree { IsTree self.new }
     {
         let revs = ancestry.revs();
-        let known = self.nodes.all().len();
-        self.origins
-            .reserve_for(self.nodes.alloc(), known, revs.len(), origin)?;
-        let best = self.nodes.insert(self.best, revs, content)?;
-        let count = self.nodes.all().len() - known;
-        self.origins.extend(known, count, origin);
-        self.best = best;
+        self.stored.insert(revs, content, origin)?;
+        // The call has no effect, but makes the invariant of the nodes available to the proof.
+        let _nodes = self.stored.all();
         Ok(())
     }
 }

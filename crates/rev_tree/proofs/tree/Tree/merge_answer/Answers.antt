@@ -10,7 +10,7 @@ returns-then-is_some-clause-answer c =
     let t = c.args.self.now in
     let none = (λ i. first_contradiction (sym c.self.view_is i).parents (edges_of (sym c.revs.ensures.all i))) ∙ c.in-Ok.ensures.none in
     let all = (λ i. list_all (has_edge (sym c.self.view_is i)) (edges_of (sym c.revs.ensures.all i))) ∙ sym c.in-Ok.ensures.edges ∙ c.if-all.true in
-    sym (answer_known t (stored_tree c.self.inside.nodes.items c.self.inside.origins c.self.inside.best c.args.self.now c.self.invariant c.self.view_is) c.args.ancestry.now c.head.result _ c.head.ensures none all
+    sym (answer_known t (stored_tree c.self.inside.stored.items c.self.inside.stored.origins c.self.inside.stored.best c.args.self.now c.self.invariant c.self.view_is) c.args.ancestry.now c.head.result _ c.head.ensures none all
     (ap is_some (sym c.content.ensures) ∙ sym (is_some-copied c.content.result) ∙ sym c.is_some.ensures ∙ c.if-is_some.true))
 
 pub returns-else-all-clause-answer : goal.returns-else-all-clause-answer
@@ -20,7 +20,7 @@ returns-else-all-clause-answer c =
     let all = (λ i. list_all (has_edge (sym c.self.view_is i)) (edges_of (sym c.revs.ensures.all i))) ∙ sym c.in-Ok.ensures.edges in
     elim c.else-all.branch [
       | else-all-via-then-all+else-is_some w ↦
-          sym (answer_known t (stored_tree c.self.inside.nodes.items c.self.inside.origins c.self.inside.best c.args.self.now c.self.invariant c.self.view_is) c.args.ancestry.now w.head.result _ w.head.ensures none (all ∙ w.if-all.true)
+          sym (answer_known t (stored_tree c.self.inside.stored.items c.self.inside.stored.origins c.self.inside.stored.best c.args.self.now c.self.invariant c.self.view_is) c.args.ancestry.now w.head.result _ w.head.ensures none (all ∙ w.if-all.true)
           (ap is_some (sym w.content.ensures) ∙ sym (is_some-copied w.content.result) ∙ sym w.is_some.ensures ∙ w.if-is_some.false))
       | else-all-via-else-all w ↦ sym (answer_missed t c.args.ancestry.now none (all ∙ w.if-all.false))
     ]
@@ -32,10 +32,10 @@ returns-in-Err-clause-answer c =
     sym (ap (λ o. answer_of o (is_same t c.args.ancestry.now)) told)
 
 pub returns-then-is_some-clause-tree : goal.returns-then-is_some-clause-tree
-returns-then-is_some-clause-tree c = stored_tree c.self.inside.nodes.items c.self.inside.origins c.self.inside.best c.args.self.now c.self.invariant c.self.view_is
+returns-then-is_some-clause-tree c = stored_tree c.self.inside.stored.items c.self.inside.stored.origins c.self.inside.stored.best c.args.self.now c.self.invariant c.self.view_is
 
 pub returns-else-all-clause-tree : goal.returns-else-all-clause-tree
-returns-else-all-clause-tree c = stored_tree c.self.inside.nodes.items c.self.inside.origins c.self.inside.best c.args.self.now c.self.invariant c.self.view_is
+returns-else-all-clause-tree c = stored_tree c.self.inside.stored.items c.self.inside.stored.origins c.self.inside.stored.best c.args.self.now c.self.invariant c.self.view_is
 
 pub returns-in-Err-clause-tree : goal.returns-in-Err-clause-tree
-returns-in-Err-clause-tree c = stored_tree c.self.inside.nodes.items c.self.inside.origins c.self.inside.best c.args.self.now c.self.invariant c.self.view_is
+returns-in-Err-clause-tree c = stored_tree c.self.inside.stored.items c.self.inside.stored.origins c.self.inside.stored.best c.args.self.now c.self.invariant c.self.view_is

@@ -12,13 +12,13 @@ is_some-copied (Some r) = refl
 pub returns-then-is_some : goal.returns-then-is_some
 returns-then-is_some c =
     let t = c.args.self.now in
-    let nodes = c.self.inside.nodes.items in
+    let nodes = c.self.inside.stored.items in
     let items = c.all-node-items.result.now in
     let i = c.loop-node.node-index in
     let n = c.node-item.result in
     let same = c.all-node-items.ensures.items in
-    let leaf = leaf_item nodes items t c.all-node-items.ensures.linked (shows c.self.inside.nodes.items c.self.inside.origins c.args.self.now c.all-node-items.ensures.linked c.self.view_is) same i n c.loop-node-test.true c.node-item.is in
-    second_leaf nodes t c.all-node-items.ensures.linked (shows c.self.inside.nodes.items c.self.inside.origins c.args.self.now c.all-node-items.ensures.linked c.self.view_is) i n (option_copied c.loop-node.found)
+    let leaf = leaf_item nodes items t c.all-node-items.ensures.linked (shows c.self.inside.stored.items c.self.inside.stored.origins c.args.self.now c.all-node-items.ensures.linked c.self.view_is) same i n c.loop-node-test.true c.node-item.is in
+    second_leaf nodes t c.all-node-items.ensures.linked (shows c.self.inside.stored.items c.self.inside.stored.origins c.args.self.now c.all-node-items.ensures.linked c.self.view_is) i n (option_copied c.loop-node.found)
     (subst (λ l. i < length l) same c.loop-node-test.true)
     (subst (λ l. n ≡ get_or l i n) same c.node-item.is)
     (subst (λ l. filter (is_leaf t) (revs_in (take i l)) ≡ option_to_list (option_copied c.loop-node.found)) same c.loop-node.invariant)
@@ -32,7 +32,7 @@ loop-node-preserved c =
     let i = c.loop-node.node-index in
     let n = c.node-item.result in
     let before = filter (is_leaf t) (revs_in (take i items)) in
-    let leaf = leaf_item c.self.inside.nodes.items items t c.all-node-items.ensures.linked (shows c.self.inside.nodes.items c.self.inside.origins c.args.self.now c.all-node-items.ensures.linked c.self.view_is) c.all-node-items.ensures.items i n c.loop-node-test.true c.node-item.is in
+    let leaf = leaf_item c.self.inside.stored.items items t c.all-node-items.ensures.linked (shows c.self.inside.stored.items c.self.inside.stored.origins c.args.self.now c.all-node-items.ensures.linked c.self.view_is) c.all-node-items.ensures.items i n c.loop-node-test.true c.node-item.is in
     let more = leaves_pushed t items i n c.loop-node-test.true c.node-item.is in
     elim c.if-not-has_child.branch [
       | then-not-has_child+else-is_some w ↦
@@ -47,5 +47,5 @@ loop-node-preserved c =
 pub returns : goal.returns
 returns c =
     let t = c.args.self.now in
-    lone_leaf c.self.inside.nodes.items t c.all-node-items.ensures.linked (shows c.self.inside.nodes.items c.self.inside.origins c.args.self.now c.all-node-items.ensures.linked c.self.view_is) (option_copied c.loop-node.found)
+    lone_leaf c.self.inside.stored.items t c.all-node-items.ensures.linked (shows c.self.inside.stored.items c.self.inside.stored.origins c.args.self.now c.all-node-items.ensures.linked c.self.view_is) (option_copied c.loop-node.found)
     (sym (ap (λ l. filter (is_leaf t) (revs_in l)) (take_all _ _ c.loop-node-test.false ∙ c.all-node-items.ensures.items)) ∙ c.loop-node.invariant)

@@ -11,8 +11,8 @@ loop-node-preserved c =
     let i = c.loop-node.node-index in
     let n = c.node-item.result in
     let before = filter (is_leaf t) (revs_in (take i items)) in
-    let leaf = leaf_item c.self.inside.nodes.items items t c.all-node-items.ensures.linked (shows c.self.inside.nodes.items c.self.inside.origins c.args.self.now c.all-node-items.ensures.linked c.self.view_is) c.all-node-items.ensures.items i n c.loop-node-test.true c.node-item.is in
-    let deletes = deleted_item c.self.inside.nodes.items items t c.all-node-items.ensures.linked (shows c.self.inside.nodes.items c.self.inside.origins c.args.self.now c.all-node-items.ensures.linked c.self.view_is) c.all-node-items.ensures.items i n c.loop-node-test.true c.node-item.is in
+    let leaf = leaf_item c.self.inside.stored.items items t c.all-node-items.ensures.linked (shows c.self.inside.stored.items c.self.inside.stored.origins c.args.self.now c.all-node-items.ensures.linked c.self.view_is) c.all-node-items.ensures.items i n c.loop-node-test.true c.node-item.is in
+    let deletes = deleted_item c.self.inside.stored.items items t c.all-node-items.ensures.linked (shows c.self.inside.stored.items c.self.inside.stored.origins c.args.self.now c.all-node-items.ensures.linked c.self.view_is) c.all-node-items.ensures.items i n c.loop-node-test.true c.node-item.is in
     let more = leaves_pushed t items i n c.loop-node-test.true c.node-item.is in
     elim c.if-not-has_child.branch [
       | then-not-has_child+in_ok-push w ↦
@@ -31,12 +31,12 @@ loop-node-preserved c =
 pub returns : goal.returns
 returns c =
     let t = c.args.self.now in
-    let nodes = c.self.inside.nodes.items in
+    let nodes = c.self.inside.stored.items in
     let revs = filter (is_leaf t) (revs_in nodes) in
     let found : map told c.loop-node.found.items ≡ map (told_deleted t) revs = c.loop-node.invariant ∙ ap (λ l. map (told_deleted t) (filter (is_leaf t) (revs_in l))) (take_all _ _ c.loop-node-test.false ∙ c.all-node-items.ensures.items) in
     let sorted =
     leaves_in_order t revs c.loop-node.found.items c.sort_unstable_by.new.self.items (count_once t (revs_in nodes) c.all-node-items.ensures.linked.once)
     found c.sort_unstable_by.ensures.permutation
     (c.sort_unstable_by.ensures.sorted (λ x y. is_lt (pair_cmp (told x) (told y))) (ranks_by pair_cmp_total told) (always_returns_same _ _ _ (λ a r q k. search rules)))
-    ∙ leaves_of_nodes nodes t c.all-node-items.ensures.linked (shows c.self.inside.nodes.items c.self.inside.origins c.args.self.now c.all-node-items.ensures.linked c.self.view_is) in
+    ∙ leaves_of_nodes nodes t c.all-node-items.ensures.linked (shows c.self.inside.stored.items c.self.inside.stored.origins c.args.self.now c.all-node-items.ensures.linked c.self.view_is) in
     subst (λ l. IfOk c.revs_of.result (λ v. v.items ≡ l)) (ap (map (λ (l : Leaf). l.rev.now)) c.deref.ensures.value ∙ sorted) c.revs_of.ensures

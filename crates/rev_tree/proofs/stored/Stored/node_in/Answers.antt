@@ -1,6 +1,6 @@
 use Rattle.proof_prelude.proofs.{sym, ap, ◌∙◌, option_copied}
 use Rattle.rev_tree.proofs.{place_known, place_unknown}
-use Rattle.rev_tree.proofs.nodes.Nodes.node_in.Goals as goal
+use Rattle.rev_tree.proofs.stored.Stored.node_in.Goals as goal
 
 pub node_at-requires : goal.node_at-requires
 node_at-requires c = (place_known c.args.self.now.items c.args.rev.now c.in_ok-place.place (sym c.place_in.ensures.place ∙ c.in_ok-place.was)).within

@@ -1,6 +1,6 @@
 use Rattle.proof_prelude.proofs.{subst, length}
 use Rattle.rev_tree.proofs.{IsScanned, all_scanned, only_leaves}
-use Rattle.rev_tree.proofs.shared_nodes.SharedNodes.only_leaves_have_contents.Goals as goal
+use Rattle.rev_tree.proofs.stored.Stored.only_leaves_have_contents.Goals as goal
 
 pub returns : goal.returns
 returns c = record {
