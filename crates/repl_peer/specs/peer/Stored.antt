@@ -1,5 +1,5 @@
 -- Defines the invariants of a stored peer and of a stored backup, which also bound the number of local writes.
-use Rattle.std.specs.Prelude.{ℕ, ◌≤◌, Bool, List, length}
+use Rattle.std.specs.Prelude.{◌≤◌, Bool, List, length}
 use Rattle.doc_json.specs.Document.{Document}
 use Rattle.couch_base.specs.Database.{DatabaseValue}
 use Rattle.repl_peer.specs.peer.Peer.{PeerValue, WrittenValue}

@@ -1,5 +1,5 @@
 -- A write is in its document's tree and stays there, since edges never change.
-use Rattle.proof_prelude.proofs.{◌≡◌, ℕ, zero, suc, ◌+◌, ◌<◌, length, slice_get, List, [], ◌∷◌, ◌++◌, Bool, true, false, cond, Option, Some, None, is_some, Result, Ok, Err, unwrap_or, refl, sym, ap, ◌∙◌, subst, inl, inr, arith, nat_lt, eq_by_cmp, option_or, bytes_eq, FinMap, get, false≢true, cond-true, same_Some, bytes_eq-Decides}
+use Rattle.proof_prelude.proofs.{◌≡◌, ℕ, ◌+◌, List, [], ◌∷◌, ◌++◌, Bool, true, false, cond, Option, Some, None, is_some, Result, Ok, Err, unwrap_or, refl, sym, ap, ◌∙◌, subst, inl, inr, arith, nat_lt, eq_by_cmp, option_or, bytes_eq, FinMap, get, false≢true, cond-true, bytes_eq-Decides}
 use Rattle.std.specs.FinMap.{find}
 use Rattle.rev_core.specs.{RevId, rev_cmp, rev_tie_is, rev_tie_self, FallsByOne, edges_of, is_among}
 use Rattle.rev_tree.specs.{TreeValue, has, merged, has-merged_given, joined, is_same, answer_of, no_revisions, first_contradiction, contradiction_at, apart, edge_found, get-joined, get-joined_known, lower_later, merged-same, no_contradiction, Contradiction, Origin, SessionId}

@@ -1,5 +1,5 @@
 -- The documents of a parcel, one at a time.
-use Rattle.proof_prelude.proofs.{◌≡◌, ℕ, ◌+◌, ◌-◌, ◌<◌, ◌≤◌, Bool, true, false, ◌&&◌, ◌||◌, List, [], ◌∷◌, ◌++◌, length, take, drop, Option, Some, None, Result, Ok, Err, IfErr, slice_get, zero, suc, refl, sym, ap, ◌∙◌, subst, arith, or-false, or_assoc, cond-true, cond-false, cond_both, list_any-append, get_or, length-drop, drop_more, take_more, bytes_eq, take_all, nat_lt, option_map, set, same_Some, IfSome, ◌⊎◌, inl, inr, OnOk, OnErr, IsTrue, false≢true, drop_all, slice_get_within, get_or_from_slice_get, map, map-append, append_assoc, append-nil, length-append, take-map, take-take}
+use Rattle.proof_prelude.proofs.{◌≡◌, ℕ, ◌+◌, ◌-◌, ◌<◌, ◌≤◌, Bool, true, false, ◌&&◌, ◌||◌, List, [], ◌∷◌, ◌++◌, length, take, drop, Option, Some, None, Result, Ok, Err, IfErr, slice_get, zero, suc, refl, sym, ap, ◌∙◌, subst, arith, or-false, or_assoc, cond-true, cond-false, cond_both, list_any-append, get_or, length-drop, drop_more, take_more, bytes_eq, take_all, nat_lt, option_map, set, same_Some, IfSome, ◌⊎◌, inl, inr, OnOk, OnErr, IsTrue, false≢true, drop_all, slice_get_within, get_or_from_slice_get}
 use Rattle.rev_core.specs.{is_among, RevId}
 use Rattle.rev_tree.specs.Tree.{answer_of, is_same}
 use Rattle.rev_tree.specs.declared.fault.Contradiction.{Contradiction}

@@ -1,4 +1,4 @@
-use Rattle.proof_prelude.proofs.{ap, ◌∙◌, arith, length}
+use Rattle.proof_prelude.proofs.{ap, arith, length}
 use Rattle.couch_base.specs.{DatabaseValue}
 use Rattle.repl_peer.specs.{BackupValue, PeerValue}
 use Rattle.repl_peer.proofs.{none_seen, Lawful-restored}

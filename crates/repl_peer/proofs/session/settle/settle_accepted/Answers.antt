@@ -1,5 +1,4 @@
-use Rattle.proof_prelude.proofs.{◌≡◌, sym, ◌∙◌, subst, rules}
-use Rattle.repl_peer.specs.{SessionValue, IndexesMore}
+use Rattle.proof_prelude.proofs.{sym, ◌∙◌, rules}
 use Rattle.repl_peer.specs.declared.fault.Reason.TheVariants as reasons
 use Rattle.repl_peer.proofs.{arrives_by, indexes_by, stops_by}
 use Rattle.repl_peer.proofs.session.settle.settle_accepted.Goals as goal

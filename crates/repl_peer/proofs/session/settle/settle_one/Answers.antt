@@ -1,4 +1,4 @@
-use Rattle.proof_prelude.proofs.{◌≡◌, ◌+◌, false, sym, ap, ◌∙◌, subst}
+use Rattle.proof_prelude.proofs.{◌+◌, sym, ap, ◌∙◌, subst}
 use Rattle.couch_base.specs.{DatabaseValue}
 use Rattle.couch_base.specs.declared.fault.Put.TheVariants as puts
 use Rattle.repl_peer.specs.{Steps, cause_at, settling_at, stops_in}
