@@ -17,7 +17,7 @@ const REP: RepId = RepId {
 
 /// The observed values of a peer: the life (incarnation) and update sequence of its database, and the numbers of its
 /// local writes and log entries.
-type Seen = (u64, u64, usize, usize);
+type Seen = (u64, u64, u64, usize);
 
 /// Returns the number of entries in the log of the replication.
 fn entries(alloc: Global, peer: &Peer<Rules>) -> Option<usize> {
@@ -32,7 +32,7 @@ fn look(alloc: Global, peer: &Peer<Rules>) -> Option<Seen> {
         return None;
     };
     let db = peer.db();
-    Some((db.life(), db.update_seq(), peer.locals().len(), entries))
+    Some((db.life(), db.update_seq(), peer.local_count(), entries))
 }
 
 /// Stores the entry of a session in a peer's log.

@@ -9,8 +9,8 @@ ghost use Rattle.pool_workers.specs.Grown.{IsAnswerOf};
 ghost use Rattle.pool_workers.specs.Paging.{IsNext};
 
 use crate::brands::SourceBrand;
-use couch_base::{Asked, Row, Window};
-use repl_target::{Peer, Plan, PreparedParcel, ReadyWindow, WriteFilter};
+use couch_base::{Asked, Parcel, Row, Window};
+use repl_target::{Peer, Plan, ReadyWindow, WriteFilter};
 use std::alloc::{AllocError, Global};
 use std::marker::{Model, PhantomData};
 
@@ -170,8 +170,8 @@ impl<S: SourceBrand> Found<S> {
         self.page.copy(alloc)
     }
 
-    /// Reads the documents at the source. If `prepares` is true, `fetch` also builds in advance the trees and arrivals
-    /// for settling the documents.
+    /// Reads the documents at the source. If `prepares` is true, `fetch` also builds in advance the trees for settling
+    /// the documents.
     pub fn fetch<F: WriteFilter>(
         self,
         alloc: Global,
@@ -193,7 +193,7 @@ impl<S: SourceBrand> Found<S> {
 /// The source's documents for a request, after they are read.
 #[derive(Drop)]
 pub struct Fetched<S: SourceBrand> {
-    ready: PreparedParcel,
+    ready: Parcel,
     of: PhantomData<S>,
 }
 
@@ -211,7 +211,7 @@ impl<S: SourceBrand> Model for Fetched<S> {
 
 impl<S: SourceBrand> Fetched<S> {
     /// Reads the documents that the source returns for a request. If `prepares` is true, `fetch` also builds in advance
-    /// the trees and arrivals for settling the documents.
+    /// the trees for settling the documents.
     pub fn fetch<F: WriteFilter>(
         alloc: Global,
         source: &Peer<F>,
@@ -224,7 +224,7 @@ impl<S: SourceBrand> Fetched<S> {
         if prepares {
             grow_heap(alloc);
         }
-        let mut ready = PreparedParcel::new(alloc, source.open_asked(alloc, asked)?);
+        let mut ready = source.open_asked(alloc, asked)?;
         if prepares {
             ready.prepare(alloc)?;
         }
@@ -238,11 +238,11 @@ impl<S: SourceBrand> Fetched<S> {
     pub fn documents(&self) -> u64
         ensures { result ≡ length self.now.docs }
     {
-        self.ready.parcel().docs().len() as u64
+        self.ready.docs().len() as u64
     }
 
-    /// Returns the parcel, with the trees and arrivals that were built in advance for its documents.
-    pub fn into_ready(self) -> PreparedParcel
+    /// Returns the parcel, with the trees that were built in advance for its documents.
+    pub fn into_ready(self) -> Parcel
         ensures value { result ≡ self }
         ensures answer { IsAnswerOf S.source self }
     {

@@ -3,20 +3,20 @@ pub mod session
 pub mod logs
 pub use peer.Backups.{BackupValue, IsBackup, after_restore, backup_answer, copy_of, greater_life, is_target, peer_of, restore_answer, restored}
 pub use peer.Backups.{restored_by}
-pub use peer.Came.{came_revs}
 pub use peer.Covered.{CoversWindow, Honest, Leaf, contradiction_of, covers, covers_window, first_uncovered, first_unknown, in_ledger, knows_row}
 pub use peer.Covered.{refusal_of, rightly_refused, unknown_in}
 pub use peer.Later.{IsLaterPeer, Keeps}
 pub use peer.Law.{AllBased, Lawful, LawfulCounts, LawfulSession, LawfulSessions, LawfulStore, session_numbers, window_bounds}
 pub use peer.Local.{stood_on, with_edit, with_edited, with_load}
+pub use peer.Noted.{noted_writes}
 pub use peer.Origins.{ComesFrom, HasOrigins}
 pub use peer.Peer.{PeerValue, RefusedValue, SessionValue, WrittenValue, entry_of, holds, is_of, new_peer, new_peer_at, session_in, with_session}
 pub use peer.Peer.{written_of}
 pub use peer.Rules.{rules_refuse}
 pub use peer.Stands.{Follows, StandsIn}
+pub use peer.Stored.{AreCounted, IsStoredBackup, IsStoredPeer}
 pub use peer.Trusted.{IsAccounted, IsTrusted}
 pub use peer.Writing.{after_edit, after_load, load_edited, next_local}
-pub use session.Arriving.{AreArrivalsOf, with_arrivals}
 pub use session.LedgerIndex.{is_ledgered}
 pub use session.ReadCounts.{read_in, read_of, taken}
 pub use session.RepIndex.{listed}

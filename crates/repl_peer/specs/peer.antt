@@ -3,7 +3,6 @@ pub mod Peer
 pub mod Covered
 pub mod Writing
 pub mod Stands
-pub mod Came
 pub mod Law
 pub mod Rules
 pub mod Later
@@ -11,4 +10,6 @@ pub mod PeerCode
 pub mod Origins
 pub mod Trusted
 pub mod Local
+pub mod Noted
 pub mod Backups
+pub mod Stored

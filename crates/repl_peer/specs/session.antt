@@ -1,5 +1,4 @@
 -- The modules in `session` define the sessions of a peer, and the settling of parcels in a session.
-pub mod Arriving
 pub mod Sessions
 pub mod Settling
 pub mod Stored

@@ -7,17 +7,15 @@ ghost use Rattle.couch_base.specs.Database.{tree_of};
 
 pub(crate) mod backup;
 pub(crate) mod filter;
-pub(crate) mod ghost_revs;
-mod local;
+pub(crate) mod ghost_writes;
+pub(crate) mod local;
 mod readers;
-pub(crate) mod written;
 
 use crate::fault::{Report, Settled, TargetFault};
 use crate::peer::filter::WriteFilter;
-use crate::peer::written::Written;
+use crate::peer::local::Locals;
 use crate::session::beginning::Beginning;
 use crate::session::deferred_drops::DeferredDrops;
-use crate::session::prepared_parcel::PreparedParcel;
 use crate::session::ready_window::ReadyWindow;
 use crate::session::rows::has_in;
 use crate::session::sessions::Sessions;
@@ -38,7 +36,7 @@ use std::marker::Model;
 pub struct Peer<F: WriteFilter> {
     filter: F,
     pub(crate) db: Database,
-    pub(crate) locals: Vec<Written>,
+    pub(crate) locals: Locals,
     pub(crate) sessions: Sessions,
     pub(crate) outgoing: Logs,
 }
@@ -66,21 +64,21 @@ impl<F: WriteFilter> Model for Peer<F> {
 
     ghost coded = { coded× F.code coded_peer };
 
-    ghost use Rattle.repl_peer.specs.peer.Law.{Lawful};
+    ghost use Rattle.repl_peer.specs.peer.Stored.{IsStoredPeer};
 
     ghost view = { λ p. (
       p.filter,
       record {
         db = p.db;
-        locals = p.locals.items;
+        locals = p.locals;
         sessions = p.sessions;
         outgoing = p.outgoing;
       },
     ) };
 
-    ghost invariant = { λ p. Lawful (F.refuses p.filter) (record {
+    ghost invariant = { λ p. IsStoredPeer (F.refuses p.filter) (record {
       db = p.db;
-      locals = p.locals.items;
+      locals = p.locals;
       sessions = p.sessions;
       outgoing = p.outgoing;
     }) };
@@ -121,7 +119,7 @@ impl<F: WriteFilter> Peer<F> {
         Peer {
             filter,
             db,
-            locals: Vec::new(alloc),
+            locals: Locals::new(),
             sessions: Sessions::new(alloc),
             outgoing: Logs::new(alloc),
         }
@@ -370,18 +368,20 @@ impl<F: WriteFilter> Peer<F> {
         ensures filter { self.new.0 ≡ self.old.0 }
         ensures law { Lawful (F.refuses self.new.0) self.new.1 }
     {
-        let alloc = *self.locals.allocator();
-        let mut spent = DeferredDrops::new(alloc);
-        self.settle_into(id, PreparedParcel::new(alloc, parcel), &mut spent)
+        let mut spent = DeferredDrops::new(self.sessions.allocator());
+        self.settle_into(id, parcel, &mut spent)
     }
 
-    /// Does the same as `settle` for a prepared parcel. If all documents are settled, the call moves the parts of the
-    /// parcel into `spent` instead of dropping the parts. A caller that holds the peer's lock can drop `spent` after
-    /// the caller releases the lock.
+    /// Does the same as `settle`. If all documents are settled, the call moves the parts of the parcel into `spent`
+    /// instead of dropping the parts. A caller that holds the peer's lock can drop `spent` after the caller releases
+    /// the lock.
+    ///
+    /// The call stores a new document in less time if the parcel has a prepared tree of the document
+    /// (`Parcel::prepare`).
     pub fn settle_into(
         &mut self,
         id: SessionId,
-        parcel: PreparedParcel,
+        parcel: Parcel,
         spent: &mut DeferredDrops,
     ) -> Result<Settled, TargetFault>
         ensures settles { SettleGives (F.refuses self.old.0) self.old.1 id parcel result self.new.1 }

@@ -6,11 +6,10 @@ ghost use Rattle.repl_log.specs.Entry.{value_of};
 ghost use Rattle.repl_peer.specs.peer.Peer.{entry_of};
 ghost use Rattle.repl_peer.specs.session.Sessions.{GivesUnlessMemory, new_session, append_in, with_window, recorded_at, report_of, conclude_in};
 
-mod ahead;
 pub(crate) mod beginning;
 pub(crate) mod deferred_drops;
+mod ghost_leaves;
 mod ledger_index;
-pub(crate) mod prepared_parcel;
 pub(crate) mod ready_window;
 pub(crate) mod refused;
 mod rep_index;
@@ -21,7 +20,7 @@ mod stored;
 pub(crate) mod window;
 
 use crate::fault::{Report, TargetFault};
-use crate::peer::written::Written;
+use crate::peer::ghost_writes::GhostWrites;
 use crate::room::room_for_one;
 use crate::session::beginning::{Beginning, Scope};
 use crate::session::ready_window::ReadyWindow;
@@ -35,8 +34,8 @@ use std::marker::Model;
 
 /// An incoming session.
 ///
-/// A session stores its arrivals in several lists, in order. The session adds a list of prepared arrivals to its own
-/// lists without copying the arrivals.
+/// The session's arrivals (stored documents) exist for contracts only. At run time, the session stores the number of its
+/// arrivals, as the count of written documents.
 #[derive(Drop)]
 pub(crate) struct Session {
     pub(crate) id: SessionId,
@@ -44,8 +43,7 @@ pub(crate) struct Session {
     pub(crate) front: Front,
     pub(crate) windows: Vec<StoredWindow>,
     pub(crate) recorded: u64,
-    pub(crate) earlier: Vec<Vec<Written>>,
-    pub(crate) arrivals: Vec<Written>,
+    pub(crate) arrivals: GhostWrites,
     pub(crate) ledger: Vec<Refused>,
     pub(crate) counts: Counts,
     pub(crate) start_time: Moment,
@@ -79,8 +77,7 @@ impl Session {
             front: Front::new(alloc, start),
             windows: Vec::new(alloc),
             recorded: start,
-            earlier: Vec::new(alloc),
-            arrivals: Vec::new(alloc),
+            arrivals: GhostWrites::new(),
             ledger: Vec::new(alloc),
             counts: Counts::none(),
             start_time: at,

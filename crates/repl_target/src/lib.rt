@@ -10,9 +10,8 @@ mod replication;
 pub use auditing::found::Audit;
 pub use auditing::{audit, hole_above, hole_within};
 pub use repl_peer::{
-    Backup, Beginning, Cause, DeferredDrops, Peer, PreparedParcel, ReadyWindow, Reason, Refused,
-    Report, Rules, Scope, Settled, StoredWindow, TargetFault, Verdict, WriteFilter, Written,
-    checkpoint, rep_between,
+    Backup, Beginning, Cause, DeferredDrops, Peer, ReadyWindow, Reason, Refused, Report, Rules,
+    Scope, Settled, StoredWindow, TargetFault, Verdict, WriteFilter, checkpoint, rep_between,
 };
 pub use replication::sync::{SyncFault, Synced, sync_alone};
 pub use replication::{

@@ -453,7 +453,7 @@ fn compare_peers(
     compare_log(rt, source.source_log(alloc, &rep).ok(), &model.log.entries);
     holds(rt, source.db().life() == model.log.life, "the life");
     // In this test, each write to the source's database is a local write.
-    let writes = source.locals().len() as u64;
+    let writes = source.local_count();
     holds(rt, writes == model.source.update_seq, "the local writes");
     compare_sessions(rt, alloc, target, &rep, model);
     is_clean(rt, alloc, source, target, chosen.as_ref());

@@ -10,4 +10,3 @@ pub mod PeerInvariant
 pub mod CopiedInTurn
 pub mod RestoredPeers
 pub mod RefusedCalls
-pub mod EditedPeers

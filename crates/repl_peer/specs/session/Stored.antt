@@ -1,6 +1,5 @@
 -- Defines the stored form of a session, and the invariant of a stored session.
-use Rattle.std.specs.Prelude.{◌≡◌, ◌≤◌, ◌++◌}
-use Rattle.std.specs.List.{flat_map}
+use Rattle.std.specs.Prelude.{◌≡◌, ◌≤◌}
 use Rattle.range_front.specs.Front.{IsFront, bounds}
 use Rattle.repl_log.specs.Counts.{AddUp}
 use Rattle.repl_peer.specs.peer.Peer.{SessionValue}
@@ -16,7 +15,7 @@ session_value s = record {
   front = s.front.front;
   windows = windows_of s.windows.items;
   recorded = s.recorded;
-  arrivals = flat_map (λ list. list.items) s.earlier.items ++ s.arrivals.items;
+  arrivals = s.arrivals.list;
   ledger = s.ledger.items;
   counts = s.counts;
   start_time = s.start_time;

@@ -8,7 +8,7 @@ ghost use Rattle.repl_peer.specs.peer.Backups.{is_target, backup_answer, greater
 use crate::fault::TargetFault;
 use crate::peer::Peer;
 use crate::peer::filter::WriteFilter;
-use crate::peer::written::{Written, copy_writes};
+use crate::peer::local::Locals;
 use couch_base::{Database, MOST_SEQUENCE};
 use repl_log::Logs;
 use std::alloc::Global;
@@ -17,7 +17,7 @@ use std::marker::Model;
 /// A copy of a peer without incoming sessions: its database, its local writes, and its outgoing logs.
 pub struct Backup {
     pub(crate) db: Database,
-    pub(crate) locals: Vec<Written>,
+    pub(crate) locals: Locals,
     pub(crate) outgoing: Logs,
 }
 
@@ -41,13 +41,13 @@ impl Model for Backup {
 
     ghost coded = { coded_backup };
 
-    ghost use Rattle.repl_peer.specs.peer.Backups.{IsBackup};
+    ghost use Rattle.repl_peer.specs.peer.Stored.{IsStoredBackup};
 
-    ghost view = { λ b. record { db = b.db; locals = b.locals.items; outgoing = b.outgoing } };
+    ghost view = { λ b. record { db = b.db; locals = b.locals; outgoing = b.outgoing } };
 
-    ghost invariant = { λ b. IsBackup (record {
+    ghost invariant = { λ b. IsStoredBackup (record {
       db = b.db;
-      locals = b.locals.items;
+      locals = b.locals;
       outgoing = b.outgoing;
     }) };
 }
@@ -78,7 +78,7 @@ impl<F: WriteFilter> Peer<F> {
             return Err(TargetFault::IsTarget);
         }
         let db = self.db.copy(alloc)?;
-        let locals = copy_writes(alloc, &self.locals)?;
+        let locals = self.locals.copy();
         let outgoing = self.outgoing.copy(alloc)?;
         Ok(Backup {
             db,
@@ -111,9 +111,9 @@ impl<F: WriteFilter> Peer<F> {
         // invariant of backups.
         let _copy = backup.db();
         self.law();
-        let alloc = *self.locals.allocator();
+        let alloc = self.sessions.allocator();
         let db = backup.db.copy_in(alloc, life)?;
-        let locals = copy_writes(alloc, &backup.locals)?;
+        let locals = backup.locals.copy();
         let outgoing = backup.outgoing.copy(alloc)?;
         self.db = db;
         self.locals = locals;

@@ -1,117 +1,129 @@
 //! Local writes.
-ghost use Rattle.std.specs.Prelude.{◌≡◌, ◌<◌, None, length, OnOk, OnErr, IfOk};
-ghost use Rattle.std.specs.Vec.{vec_len, vec_capacity};
+ghost use Rattle.std.specs.Prelude.{◌≡◌, ◌<◌, ◌≤◌, None, length, OnOk, OnErr};
 ghost use Rattle.rev_tree.specs.declared.origin.Origin.TheVariants.{Local};
-ghost use Rattle.couch_base.specs.Database.{tree_in};
+ghost use Rattle.couch_base.specs.Database.{most, tree_in};
 ghost use Rattle.couch_base.specs.Put.{put_answer, after_put, PutGives};
 ghost use Rattle.couch_base.specs.Edit.{edit_answer, after_edit, EditGives};
-ghost use Rattle.repl_peer.specs.peer.Peer.{written_of};
 ghost use Rattle.repl_peer.specs.peer.Local.{with_load, with_edit, stood_on};
 
-use crate::peer::written::Written;
-use crate::room::room_for_one;
+use crate::peer::ghost_writes::GhostWrites;
 use couch_base::{BaseFault, Database, Put};
 use doc_json::{Body, Doc, DocId};
 use rev_core::Rev;
 use rev_tree::Origin;
-use std::alloc::AllocError;
+use std::marker::Model;
 
-/// Stores a user's document in the database, together with the local write that records the put.
-///
-/// The call builds the local write before it changes the database, so that an error changes nothing. If the allocation
-/// for the local write fails and the put would change the database, the call returns `Memory`. If this allocation fails
-/// and the put would not change the database, the call returns the result of `Database::put_answer`.
-pub(crate) fn load(
-    db: &mut Database,
-    locals: &mut Vec<Written>,
-    doc: &Doc,
-) -> Result<Put, BaseFault>
-    ensures answer { PutGives result (put_answer db.old doc.now) }
-    ensures db { OnOk result (db.new ≡ after_put db.old doc.now (Local (length locals.old.items))) }
-    ensures locals { OnOk result (locals.new.items ≡ with_load db.old locals.old.items doc.now) }
-    ensures db_kept { OnErr result (db.new ≡ db.old) }
-    ensures locals_kept { OnErr result (locals.new.items ≡ locals.old.items) }
-{
-    let written = match prepare(locals, doc) {
-        Ok(written) => written,
-        Err(refused) => {
-            return match db.put_answer(doc) {
-                Ok(Put::Changed { .. }) => Err(BaseFault::from(refused)),
-                answer => answer,
-            };
+/// The local writes of a peer. At run time, a `Locals` is only the number of local writes. In contracts, a `Locals` is
+/// the list of local writes.
+#[derive(Drop)]
+pub(crate) struct Locals {
+    count: u64,
+    writes: GhostWrites,
+}
+
+impl Model for Locals {
+    ghost use Rattle.std.specs.Prelude.{◌≡◌, List, length};
+    ghost use Rattle.std.specs.Coded.{coded_list};
+    ghost use Rattle.repl_peer.specs.peer.Peer.{WrittenValue};
+    ghost use Rattle.repl_peer.specs.peer.PeerCode.{coded_written};
+
+    ghost Value = { List WrittenValue };
+
+    ghost coded = { coded_list coded_written };
+
+    ghost view = { λ l. l.writes.list };
+
+    ghost invariant = { λ l. length l.writes.list ≡ l.count };
+}
+
+impl Locals {
+    ghost use Rattle.std.specs.Prelude.{[], ◌∷◌, ◌++◌};
+
+    /// Creates an empty list of local writes.
+    pub(crate) fn new() -> Locals
+        ensures { result ≡ [] }
+    {
+        Locals {
+            count: 0,
+            writes: GhostWrites::new(),
         }
-    };
-    let origin = Origin::Local(locals.len() as u64);
-    match db.put(doc, origin) {
-        Ok(Put::Changed { seq }) => {
-            locals.push(written).unwrap();
-            Ok(Put::Changed { seq })
+    }
+
+    /// Copies the local writes.
+    pub(crate) fn copy(&self) -> Locals
+        ensures { result ≡ self.now }
+    {
+        Locals {
+            count: self.count,
+            writes: self.writes.copy(),
         }
-        answer => answer,
+    }
+
+    /// Returns the number of local writes.
+    pub(crate) fn count(&self) -> u64
+        ensures { result ≡ length self.now }
+    {
+        self.count
+    }
+
+    /// Adds a local write, which has the given revisions of a document, newest first.
+    fn add(&mut self, id: &DocId, revs: &[Rev])
+        requires { length self.old < most }
+        ensures { self.new ≡ self.old ++ record { id = id.now; ancestry = revs.now } ∷ [] }
+    {
+        self.writes = self.writes.and(id, revs);
+        self.count += 1;
     }
 }
 
-/// Builds the local write for storing the document `doc`, and reserves space for the write in the list of local writes.
-fn prepare(locals: &mut Vec<Written>, doc: &Doc) -> Result<Written, AllocError>
-    ensures written { IfOk result (λ w. w ≡ written_of doc.now) }
-    ensures place { OnOk result (vec_len locals.new < vec_capacity locals.new) }
-    ensures locals { locals.new.items ≡ locals.old.items }
-{
-    room_for_one(locals)?;
-    Written::of(*locals.allocator(), doc)
-}
-
-/// Copies the document id for a local write, and reserves space for the write.
-fn prepare_id(locals: &mut Vec<Written>, id: &DocId) -> Result<DocId, AllocError>
-    ensures copied { IfOk result (λ again. again ≡ id.now) }
-    ensures place { OnOk result (vec_len locals.new < vec_capacity locals.new) }
-    ensures locals { locals.new.items ≡ locals.old.items }
-{
-    room_for_one(locals)?;
-    id.copy(*locals.allocator())
-}
-
-/// Edits a document, and stores the local write that records the edit.
+/// Stores a user's document in the database. If the put changes the database, the call adds the put to the local
+/// writes.
 ///
-/// The call prepares the local write before it changes the database, so that an error changes nothing. If the
-/// allocation for the local write fails, the call returns the error of `Database::check_edit`, or `Memory` if
-/// `check_edit` returns no error.
+/// The number of local writes is at most the database's update sequence, because each local write takes a sequence. The
+/// sum `count + 1` therefore does not overflow.
+pub(crate) fn load(db: &mut Database, locals: &mut Locals, doc: &Doc) -> Result<Put, BaseFault>
+    requires counted { length locals.old ≤ db.old.update_seq }
+    ensures answer { PutGives result (put_answer db.old doc.now) }
+    ensures db { OnOk result (db.new ≡ after_put db.old doc.now (Local (length locals.old))) }
+    ensures locals { OnOk result (locals.new ≡ with_load db.old locals.old doc.now) }
+    ensures db_kept { OnErr result (db.new ≡ db.old) }
+    ensures locals_kept { OnErr result (locals.new ≡ locals.old) }
+    ensures counted { length locals.new ≤ db.new.update_seq }
+{
+    let put = db.put(doc, Origin::Local(locals.count()))?;
+    if let Put::Changed { .. } = put {
+        locals.add(doc.id(), doc.ancestry().revs());
+    }
+    Ok(put)
+}
+
+/// Edits a document, and adds the edit to the local writes.
 pub(crate) fn edit(
     db: &mut Database,
-    locals: &mut Vec<Written>,
+    locals: &mut Locals,
     id: &DocId,
     parent: Option<Rev>,
     deleted: bool,
     body: &Body,
 ) -> Result<Rev, BaseFault>
+    requires counted { length locals.old ≤ db.old.update_seq }
     ensures answer { EditGives result (edit_answer db.old id.now parent deleted body.now) }
-    ensures db { OnOk result (db.new
-        ≡ after_edit db.old id.now parent deleted body.now (Local (length locals.old.items))) }
-    ensures locals { OnOk result (locals.new.items
-        ≡ with_edit db.old locals.old.items id.now parent deleted body.now) }
+    ensures db { OnOk result (db.new ≡ after_edit db.old id.now parent deleted body.now (Local (length locals.old))) }
+    ensures locals { OnOk result (locals.new ≡ with_edit db.old locals.old id.now parent deleted body.now) }
     ensures db_kept { OnErr result (db.new ≡ db.old) }
-    ensures locals_kept { OnErr result (locals.new.items ≡ locals.old.items) }
+    ensures locals_kept { OnErr result (locals.new ≡ locals.old) }
+    ensures counted { length locals.new ≤ db.new.update_seq }
 {
-    db.law();
     let before = match parent {
         Some(parent) => Some(parent),
         None => winner(db, id),
     };
-    let again = match prepare_id(locals, id) {
-        Ok(again) => again,
-        Err(refused) => {
-            db.check_edit(id, parent)?;
-            return Err(BaseFault::from(refused));
-        }
-    };
-    let origin = Origin::Local(locals.len() as u64);
-    match db.edit(id, parent, deleted, body, origin) {
-        Ok(rev) => {
-            locals.push(Written::edit(again, rev, before)).unwrap();
-            Ok(rev)
-        }
-        Err(fault) => Err(fault),
+    let rev = db.edit(id, parent, deleted, body, Origin::Local(locals.count()))?;
+    match before {
+        Some(before) => locals.add(id, &[rev, before]),
+        None => locals.add(id, &[rev]),
     }
+    Ok(rev)
 }
 
 /// Returns the winner of a document, or `None` if the document does not exist.

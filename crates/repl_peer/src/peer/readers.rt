@@ -1,25 +1,23 @@
 //! Calls that read the parts of a peer. No call in this file allocates.
 use crate::peer::Peer;
 use crate::peer::filter::WriteFilter;
-use crate::peer::written::Written;
 use crate::session::refused::Refused;
 use crate::session::window::StoredWindow;
 use range_front::Front;
 use rev_tree::SessionId;
 
 impl<F: WriteFilter> Peer<F> {
-    ghost use Rattle.std.specs.Prelude.{◌≡◌, ◌+◌, ◌++◌, map, length, slice_get};
-    ghost use Rattle.std.specs.List.{flat_map};
+    ghost use Rattle.std.specs.Prelude.{◌≡◌, length, slice_get};
     ghost use Rattle.std.specs.Option.{option_copied, option_map};
     ghost use Rattle.repl_peer.specs.peer.Peer.{session_in};
     ghost use Rattle.repl_peer.specs.session.Windows.{windows_of};
 
-    /// Returns the local writes in order. The number of a local write (`Origin::Local`) is its index in the returned
-    /// list.
-    pub fn locals(&self) -> &[Written]
-        ensures { result.now ≡ self.now.1.locals }
+    /// Returns the number of local writes. The next local write gets this number, which is the origin
+    /// (`Origin::Local`) of the revisions that the write adds to its document's tree.
+    pub fn local_count(&self) -> u64
+        ensures { result ≡ length self.now.1.locals }
     {
-        &self.locals
+        self.locals.count()
     }
 
     /// Returns the number of incoming sessions. The times and counts of sessions are in the sessions' log entries.
@@ -56,18 +54,6 @@ impl<F: WriteFilter> Peer<F> {
     {
         match self.sessions.find(id) {
             Some(session) => Some(&session.front),
-            None => None,
-        }
-    }
-
-    /// Returns the arrivals (stored documents) of a session in order, if the peer has the session. The arrivals in the
-    /// result's list of lists come before the arrivals in the result's second list.
-    pub fn arrivals(&self, id: SessionId) -> Option<(&[Vec<Written>], &[Written])>
-        ensures { option_map (λ lists. flat_map (λ list. list.items) lists.0.now ++ lists.1.now) result
-            ≡ option_map (λ s. s.arrivals) (session_in self.now.1.sessions id) }
-    {
-        match self.sessions.find(id) {
-            Some(session) => Some((&session.earlier, &session.arrivals)),
             None => None,
         }
     }

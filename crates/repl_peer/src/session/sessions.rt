@@ -16,11 +16,10 @@ use crate::session::Session;
 use crate::session::beginning::Beginning;
 use crate::session::deferred_drops::DeferredDrops;
 use crate::session::ledger_index::LedgerIndex;
-use crate::session::prepared_parcel::PreparedParcel;
 use crate::session::ready_window::ReadyWindow;
 use crate::session::rep_index::RepIndex;
 use crate::session::settle::settle_parcel;
-use couch_base::Database;
+use couch_base::{Database, Parcel};
 use doc_json::DocId;
 use indexmap::IndexMap;
 use repl_log::{Log, Moment, RepId};
@@ -71,6 +70,11 @@ impl Sessions {
     }
 
     // ---- readers
+
+    /// Returns the allocator of the table.
+    pub(crate) fn allocator(&self) -> Global {
+        *self.entries.allocator()
+    }
 
     /// Returns the number of sessions.
     pub(crate) fn len(&self) -> usize
@@ -235,7 +239,7 @@ impl Sessions {
         filter: &F,
         db: &mut Database,
         id: SessionId,
-        parcel: PreparedParcel,
+        parcel: Parcel,
         spent: &mut DeferredDrops,
     ) -> Result<Settled, TargetFault>
         ensures { (p : PeerValue)

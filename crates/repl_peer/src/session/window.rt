@@ -5,7 +5,7 @@ ghost use Rattle.std.specs.Str.{bytes_eq};
 ghost use Rattle.repl_peer.specs.session.Settling.{has_row};
 ghost use Rattle.repl_peer.specs.session.Windows.{windows_of, IsThinner};
 
-use crate::peer::ghost_revs::{Came, GhostRevs};
+use crate::session::ghost_leaves::GhostLeaves;
 use crate::session::ready_window::ReadyWindow;
 use crate::session::rows::all_have_rows;
 use couch_base::{Row, Window};
@@ -21,7 +21,7 @@ use std::marker::Model;
 pub(crate) struct DoneRow {
     seq: u64,
     id: DocId,
-    leaves: GhostRevs,
+    leaves: GhostLeaves,
 }
 
 impl Model for DoneRow {
@@ -29,7 +29,7 @@ impl Model for DoneRow {
 
     ghost Value = { RowValue };
 
-    ghost view = { λ r. record { seq = r.seq; id = r.id; leaves = r.leaves.revs } };
+    ghost view = { λ r. record { seq = r.seq; id = r.id; leaves = r.leaves.leaves } };
 }
 
 impl DoneRow {
@@ -41,7 +41,7 @@ impl DoneRow {
         Ok(DoneRow {
             seq: row.seq(),
             id,
-            leaves: GhostRevs::of(&Came::Whole(row.leaves())),
+            leaves: GhostLeaves::of(row),
         })
     }
 

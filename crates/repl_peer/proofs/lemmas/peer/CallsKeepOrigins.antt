@@ -1,12 +1,12 @@
 -- Every revision of a peer has an origin after every call.
-use Rattle.proof_prelude.proofs.{◌≡◌, ◌⊎◌, ℕ, ◌<◌, ◌^◌, List, [], ◌∷◌, ◌++◌, Bool, true, false, cond, ◌||◌, Option, Some, None, is_some, unwrap_or, Result, Ok, Err, map, length, refl, sym, ap, ◌∙◌, subst, inl, inr, list_any, get, get-empty, eq_by_cmp, bytes_eq, cond_both, cond-true, false≢true, bytes_eq-Decides, slice_get}
+use Rattle.proof_prelude.proofs.{◌≡◌, ◌⊎◌, ℕ, ◌<◌, ◌^◌, List, [], ◌∷◌, ◌++◌, Bool, true, false, cond, ◌||◌, Option, Some, None, is_some, unwrap_or, Result, Ok, Err, map, length, refl, sym, ap, ◌∙◌, subst, inl, inr, arith, list_any, get, get-empty, eq_by_cmp, bytes_eq, cond_both, cond-true, false≢true, bytes_eq-Decides, slice_get}
 use Rattle.std.specs.FinMap.{find}
 use Rattle.rev_core.specs.{RevId, rev_cmp, is_among}
 use Rattle.rev_tree.specs.{TreeValue, merged, no_revisions, find-among, get-joined, some_or, Origin, SessionId}
 use Rattle.rev_tree.specs.declared.origin.Origin.TheVariants.{Local, Feed}
 use Rattle.doc_json.specs.Document.{Document}
 use Rattle.couch_base.specs.{Among, some_is, none_some, Id, DatabaseValue, tree_in, tree_of, with_tree, RowValue, WindowValue, IsWindow, ParcelValue, put_answer, is_changed, after_put, content_of, tree_in-with_tree, Among-last, at-end}
-use Rattle.repl_peer.specs.{Settled, TargetFault, PeerValue, SessionValue, new_peer_at, written_of, next_local, after_load, begin_answer, new_session, begun, after_begin, after_append, after_record, after_conclude, seq_in, fed, with_arrival, has_row, with_settling, SettleGives, Lawful, IsLaterPeer, ComesFrom, HasOrigins, Beginning}
+use Rattle.repl_peer.specs.{Settled, TargetFault, PeerValue, SessionValue, new_peer_at, written_of, next_local, after_load, begin_answer, new_session, begun, after_begin, after_append, after_record, after_conclude, seq_in, fed, with_arrival, has_row, with_settling, SettleGives, Lawful, IsStoredPeer, IsLaterPeer, ComesFrom, HasOrigins, Beginning}
 use Rattle.repl_peer.proofs.lemmas.peer.LaterPeers.{with_session_holds}
 use Rattle.repl_peer.proofs.lemmas.peer.CallsKeepLaw.{load_later, begin_later}
 use Rattle.repl_peer.proofs.lemmas.session.Changes.{Change, Arrived, after_change, Source, May, KeptByChanges, settle_ends, ends_keep, append_keep, record_keep, conclude_keep}
@@ -161,10 +161,16 @@ lawful_kept refuses p s c m may h =
       locals = λ a n. stands_later p.db (after_change p s c).db k.1.db a (h.locals a n);
     }
 
-module _ (refuses : Document → Bool) (p : PeerValue) (id : SessionId) (lawful : Lawful refuses p) where
-  pub settle_lawful : (parcel : ParcelValue) (result : Result Settled TargetFault) (q : PeerValue) → SettleGives refuses p id parcel result q → Lawful refuses q
-  settle_lawful parcel result q gives = ends_keep refuses any (Lawful refuses) (lawful_kept refuses) p id parcel q (settle_ends refuses p id parcel result q gives) (λ _ _. tt) lawful
+-- each change keeps the invariant of a stored peer
+stored_kept : (refuses : Document → Bool) → KeptByChanges refuses any (λ p _. IsStoredPeer refuses p)
+stored_kept refuses p s c m may h =
+    let later = (change_law refuses any (λ _ _ w. w) p s c m may h.sessions).1 in
+    record { lawful = lawful_kept refuses p s c m may h.lawful; counted = omega (arith, h.counted, later.db.seq) }
 
+pub settle_stored : (refuses : Document → Bool) (p : PeerValue) (id : SessionId) → IsStoredPeer refuses p → (parcel : ParcelValue) (result : Result Settled TargetFault) (q : PeerValue) → SettleGives refuses p id parcel result q → IsStoredPeer refuses q
+settle_stored refuses p id stored parcel result q gives = ends_keep refuses any (IsStoredPeer refuses) (stored_kept refuses) p id parcel q (settle_ends refuses p id parcel result q gives) (λ _ _. tt) stored
+
+module _ (refuses : Document → Bool) (p : PeerValue) (id : SessionId) (lawful : Lawful refuses p) where
   pub append_lawful : (w : WindowValue) → IsWindow w → w.hi < 2 ^ 64 → Lawful refuses (after_append p id w)
   append_lawful w window small = append_keep refuses any (Lawful refuses) (lawful_kept refuses) p id w (λ _ _ _. (window, small)) lawful
 

@@ -1,5 +1,5 @@
 -- A write is in its document's tree and stays there, since edges never change.
-use Rattle.proof_prelude.proofs.{◌≡◌, ℕ, zero, suc, ◌+◌, ◌<◌, length, slice_get, List, [], ◌∷◌, ◌++◌, Bool, true, false, cond, Option, Some, None, is_some, Result, Ok, Err, unwrap_or, refl, sym, ap, ◌∙◌, subst, inl, inr, arith, nat_lt, eq_by_cmp, option_or, bytes_eq, FinMap, get, false≢true, cond-true, same_Some, bytes_eq-Decides}
+use Rattle.proof_prelude.proofs.{◌≡◌, ℕ, ◌+◌, List, [], ◌∷◌, ◌++◌, Bool, true, false, cond, Option, Some, None, is_some, Result, Ok, Err, unwrap_or, refl, sym, ap, ◌∙◌, subst, inl, inr, arith, nat_lt, eq_by_cmp, option_or, bytes_eq, FinMap, get, false≢true, cond-true, bytes_eq-Decides}
 use Rattle.std.specs.FinMap.{find}
 use Rattle.rev_core.specs.{RevId, rev_cmp, rev_tie_is, rev_tie_self, FallsByOne, edges_of, is_among}
 use Rattle.rev_tree.specs.{TreeValue, has, merged, has-merged_given, joined, is_same, answer_of, no_revisions, first_contradiction, contradiction_at, apart, edge_found, get-joined, get-joined_known, lower_later, merged-same, no_contradiction, Contradiction, Origin, SessionId}
@@ -129,33 +129,3 @@ begun_stands p s (Err fault) h = h
 
 pub begin_stands : (p : PeerValue) (id : SessionId) (b : Beginning) (at : ℕ) → LocalsStand p → LocalsStand (after_begin p id b at)
 begin_stands p id b at h = begun_stands p (new_session id b at) (begin_answer p id b) h
-
--- ---- reading a write
-
--- the parent of one of the revisions is the next one
-pub follows_at : (m : FinMap rev_cmp RevId) (revs : List RevId) (i : ℕ) (r : RevId) → Follows m revs → slice_get revs i ≡ Some r → i + 1 < length revs → get m r ≡ slice_get revs (i + 1)
-follows_at m [] i r f e h = absurd (omega arith)
-follows_at m (x ∷ []) i r f e h = absurd (omega arith)
-follows_at m (x ∷ (s ∷ rest)) zero r f e h = ap (get m) (sym (same_Some x r e)) ∙ f.0
-follows_at m (x ∷ (s ∷ rest)) (suc i) r f e h =
-    let more : suc (i + 1) ≡ suc i + 1 = omega arith in
-    follows_at m (s ∷ rest) i r f.1 e (omega arith) ∙ ap (slice_get (x ∷ (s ∷ rest))) more
-
--- before the end there is a next one
-pub some_at : (revs : List RevId) (n : ℕ) → n < length revs → (r : RevId) × (slice_get revs n ≡ Some r)
-some_at [] n h = absurd (omega arith)
-some_at (x ∷ revs) zero h = (x, refl)
-some_at (x ∷ revs) (suc n) h = some_at revs n (omega arith)
-
--- the tree's parent of a write's revision is the next one
-pub next_stands : (db : DatabaseValue) (v w : WrittenValue) (n i k : ℕ) (r : RevId) → v ≡ w → FallsByOne v.ancestry → length v.ancestry ≡ n → StandsIn db w → slice_get w.ancestry i ≡ Some r → i < k → k < n → get (tree_of db.docs v.id).parents r ≡ slice_get w.ancestry (i + 1)
-next_stands db v w n i k r same falls size stands at before within =
-    let long : length w.ancestry ≡ n = subst (λ (x : WrittenValue). length x.ancestry ≡ n) same size in
-    ap (λ (x : WrittenValue). get (tree_of db.docs x.id).parents r) same
-    ∙ follows_at (tree_of db.docs w.id).parents w.ancestry i r (stands (subst (λ (x : WrittenValue). FallsByOne x.ancestry) same falls)) at (omega (arith, long, before, within))
-
--- the next revision exists
-pub next_there : (v w : WrittenValue) (n i k : ℕ) → v ≡ w → length v.ancestry ≡ n → i < k → k < n → (r : RevId) × (slice_get w.ancestry (i + 1) ≡ Some r)
-next_there v w n i k same size before within =
-    let long : length w.ancestry ≡ n = subst (λ (x : WrittenValue). length x.ancestry ≡ n) same size in
-    some_at w.ancestry (i + 1) (omega (arith, long, before, within))

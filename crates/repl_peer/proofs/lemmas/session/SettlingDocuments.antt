@@ -1,5 +1,5 @@
 -- The documents of a parcel, one at a time.
-use Rattle.proof_prelude.proofs.{◌≡◌, ℕ, ◌+◌, ◌-◌, ◌<◌, ◌≤◌, Bool, true, false, ◌&&◌, ◌||◌, List, [], ◌∷◌, ◌++◌, length, take, drop, Option, Some, None, Result, Ok, Err, IfErr, slice_get, zero, suc, refl, sym, ap, ◌∙◌, subst, arith, or-false, or_assoc, cond-true, cond-false, cond_both, list_any-append, get_or, length-drop, drop_more, take_more, bytes_eq, take_all, nat_lt, option_map, set, same_Some, IfSome, ◌⊎◌, inl, inr, OnOk, OnErr, IsTrue, false≢true, drop_all, slice_get_within, get_or_from_slice_get, map, map-append, append_assoc, append-nil, length-append, take-map, take-take}
+use Rattle.proof_prelude.proofs.{◌≡◌, ℕ, ◌+◌, ◌-◌, ◌<◌, ◌≤◌, Bool, true, false, ◌&&◌, ◌||◌, List, [], ◌∷◌, ◌++◌, length, take, drop, Option, Some, None, Result, Ok, Err, IfErr, slice_get, zero, suc, refl, sym, ap, ◌∙◌, subst, arith, or-false, or_assoc, cond-true, cond-false, cond_both, list_any-append, get_or, length-drop, drop_more, take_more, bytes_eq, take_all, nat_lt, option_map, set, same_Some, IfSome, ◌⊎◌, inl, inr, OnOk, OnErr, IsTrue, false≢true, drop_all, slice_get_within, get_or_from_slice_get}
 use Rattle.rev_core.specs.{is_among, RevId}
 use Rattle.rev_tree.specs.Tree.{answer_of, is_same}
 use Rattle.rev_tree.specs.declared.fault.Contradiction.{Contradiction}
@@ -8,7 +8,7 @@ use Rattle.doc_json.specs.Document.{Document}
 use Rattle.couch_base.specs.{AreMade, Id, IsMadeOf, DatabaseValue, PreparedTree, WindowValue, none_some, any_left, most, tree_of, PutGives, is_changed, put_answer, put_told, after_put, BaseFault}
 use Rattle.couch_base.specs.declared.fault.BaseFault.TheVariants as base_faults
 use Rattle.couch_base.specs.declared.fault.Put.{Put}
-use Rattle.repl_peer.specs.{AreArrivalsOf, WrittenValue, written_of, with_arrivals, SessionValue, RefusedValue, contradiction_of, refusal_of, in_ledger, is_ledgered, Settling, is_full, settle_as, settle_one, settle_docs, Halts, stops_as, stops_in, stops_at, settled_before, fed, with_arrival, with_refused, IndexesMore, IsIndexedWith, IsSameIndex, KeepsIndexed, Reached, ReachedAll, Steps, cause_at, settling_at, Cause, Reason, LedgerIndex}
+use Rattle.repl_peer.specs.{SessionValue, RefusedValue, contradiction_of, refusal_of, in_ledger, is_ledgered, Settling, is_full, settle_as, settle_one, settle_docs, Halts, stops_as, stops_in, stops_at, settled_before, fed, with_arrival, with_refused, IndexesMore, IsIndexedWith, IsSameIndex, KeepsIndexed, Reached, ReachedAll, Steps, cause_at, settling_at, Cause, Reason, LedgerIndex}
 use Rattle.repl_peer.specs.session.Settling.{cause_by_database}
 use Rattle.repl_peer.specs.declared.fault.Cause.TheVariants as causes
 use Rattle.repl_peer.specs.declared.fault.Reason.TheVariants as reasons
@@ -23,14 +23,18 @@ set_at (z ∷ xs) zero x (suc j) y at = inl at
 set_at (z ∷ xs) (suc i) x zero y at = inl at
 set_at (z ∷ xs) (suc i) x (suc j) y at = elim (set_at xs i x j y at) [ inl before ↦ inl before | inr here ↦ inr (ap suc here.0, here.1) ]
 
-pub made_set : (docs : List Document) (made : List (Option PreparedTree)) (i : ℕ) (d : Document) (m : Option PreparedTree) → AreMade docs made → slice_get docs i ≡ Some d → IfSome m (IsMadeOf d) → AreMade docs (set made i m)
-made_set docs made i d m all at so j e n doc here =
-    elim (set_at made i m j (Some n) here) [
+-- the remaining trees after one was taken
+pub made_taken : (docs : List Document) (made : List (Option PreparedTree)) (i : ℕ) → AreMade docs made → AreMade docs (set made i None)
+made_taken docs made i all j e n doc here =
+    elim (set_at made i None j (Some n) here) [
       | inl before ↦ all j e n doc before
-      | inr put ↦
-          let same : d ≡ e = same_Some d e (sym at ∙ ap (slice_get docs) (sym put.0) ∙ doc) in
-          subst (λ (x : Document). IsMadeOf x n) same (subst (λ (o : Option PreparedTree). IfSome o (IsMadeOf d)) put.1 so)
+      | inr put ↦ absurd (none_some n put.1)
     ]
+
+-- the tree at an index
+pub made_at : (docs : List Document) (made : List (Option PreparedTree)) (i : ℕ) (d : Document) (m : Option PreparedTree) → AreMade docs made → slice_get docs i ≡ Some d → slice_get made i ≡ Some m → IfSome m (IsMadeOf d)
+made_at docs made i d None all at here = tt
+made_at docs made i d (Some n) all at here = all i d n at here
 
 -- ---- one document
 
@@ -223,43 +227,6 @@ pub reached_kept : (refuses : Document → Bool) (w : WindowValue) (z : Settling
     → db' ≡ db → t ≡ s → Reached refuses w z ds n (drop n ds) (settling_at db s) → Reached refuses w z ds n (drop n ds) (settling_at db' t)
 reached_kept refuses w z db db' s t ds n base same h =
     subst (Reached refuses w z ds n (drop n ds)) (λ i. settling_at (sym base i) (sym same i)) h
-
--- ---- documents that are settled in bulk
-
-arrived_end : (front : List Document) (d : Document) (s : SessionValue) → with_arrivals (front ++ d ∷ []) s ≡ with_arrival d (with_arrivals front s)
-arrived_end front d s =
-    let entered : s.arrivals ++ map written_of (front ++ d ∷ []) ≡ (s.arrivals ++ map written_of front) ++ written_of d ∷ [] =
-    ap (λ (l : List WrittenValue). s.arrivals ++ l) (map-append written_of front (d ∷ [])) ∙ sym (append_assoc s.arrivals (map written_of front) (written_of d ∷ [])) in
-    let read : s.counts.read + length (front ++ d ∷ []) ≡ s.counts.read + length front + 1 = omega (arith, length-append front (d ∷ [])) in
-    let written : s.counts.written + length (front ++ d ∷ []) ≡ s.counts.written + length front + 1 = omega (arith, length-append front (d ∷ [])) in
-    λ i. record s { arrivals = entered i; counts = record s.counts { read = read i; written = written i } }
-
-arrived_none : (s : SessionValue) → with_arrivals [] s ≡ s
-arrived_none s =
-    let read : s.counts.read + 0 ≡ s.counts.read = omega arith in
-    let written : s.counts.written + 0 ≡ s.counts.written = omega arith in
-    λ i. record s { arrivals = append-nil s.arrivals i; counts = record s.counts { read = read i; written = written i } }
-
--- no document is stored yet
-pub ahead_none : (refuses : Document → Bool) (w : WindowValue) (db : DatabaseValue) (s : SessionValue) (ds : List Document) → Reached refuses w (settling_at db s) ds 0 ds (settling_at db (with_arrivals [] s))
-ahead_none refuses w db s ds =
-    subst (λ (t : SessionValue). Reached refuses w (settling_at db s) ds 0 ds (settling_at db t)) (sym (arrived_none s)) (reached_none refuses w (settling_at db s) ds)
-
--- the document at the index is stored too
-pub ahead_next : (refuses : Document → Bool) (w : WindowValue) (z : Settling) (s : SessionValue) (ds : List Document) (n : ℕ) (db after : DatabaseValue) (d : Document) (answer : Put)
-    → Reached refuses w z ds n (drop n ds) (settling_at db (with_arrivals (take n ds) s)) → slice_get ds n ≡ Some d → refuses d ≡ false → put_answer db d ≡ Ok answer → after ≡ after_put db d (fed w s.id d)
-    → Reached refuses w z ds (n + 1) (drop (n + 1) ds) (settling_at after (with_arrivals (take (n + 1) ds) s))
-ahead_next refuses w z s ds n db after d answer h at accepted ok put =
-    let t = with_arrivals (take n ds) s in
-    let front : take (n + 1) ds ≡ take n ds ++ d ∷ [] = take_more ds n d (slice_get_within ds n d at) ∙ ap (λ (x : Document). take n ds ++ x ∷ []) (get_or_from_slice_get ds n d d at) in
-    let arrived : with_arrivals (take (n + 1) ds) s ≡ with_arrival d t = ap (λ (l : List Document). with_arrivals l s) front ∙ arrived_end (take n ds) d s in
-    reached_at refuses w z (settling_at db t) (settling_at after (with_arrivals (take (n + 1) ds) s)) ds n d h at (goes_by refuses db d answer accepted ok)
-    ((λ i. settling_at (put i) (arrived i)) ∙ sym (arrives refuses w db t d answer accepted ok))
-
--- a prefix of the arrivals
-pub first_arrivals : (ds : List Document) (all : List WrittenValue) (n : ℕ) → AreArrivalsOf ds all → n ≤ length all → take n all ≡ map written_of (take n ds)
-first_arrivals ds all n are within =
-    ap (take n) are ∙ take-map written_of n (take (length all) ds) ∙ ap (map written_of) (take-take n (length all) ds within)
 
 -- ---- the effect of documents on the session
 

@@ -2,14 +2,14 @@ use Rattle.proof_prelude.proofs.{◌≡◌, ◌+◌, ◌-◌, ◌≤◌, List, S
 use Rattle.doc_json.specs.Document.{Document}
 use Rattle.couch_base.specs.{most, AreMade, WindowValue, ParcelValue}
 use Rattle.range_front.specs.{FrontValue, bounds, is_done, finish_answer}
-use Rattle.repl_peer.specs.{SessionValue, window_bounds, has_row, Reached, ReachedAll, settling_at, known_of, Passes, AreArrivalsOf}
+use Rattle.repl_peer.specs.{SessionValue, window_bounds, has_row, Reached, ReachedAll, settling_at, known_of}
 use Rattle.repl_peer.proofs.{passed_by, room_of, can_finish, grown_by, reached_whole, keeps_reached, keeps_marked, gives_from, stopped, ended_err, ended_ok}
 use Rattle.repl_peer.proofs.session.settle.settle_parcel.Goals as goal
 
 pub settle_in_order-requires : goal.settle_in_order-requires
 settle_in_order-requires g c =
     let docs : c.deref.result.now ≡ c.args.parcel.docs = c.deref.ensures.value ∙ sym (ap (λ (p : ParcelValue). p.docs) c.into_parts-asked.ensures.parts) in
-    let p = subst (λ (v : ParcelValue). Passes c.args.session.now v c.in_ok-checked.checked.place c.in_ok-checked.checked.leaves c.in_ok-checked.checked.asked) c.parcel.ensures c.in_ok-checked.ensures.ok in
+    let p = c.in_ok-checked.ensures.ok in
     let q = passed_by c.args.session.now c.args.parcel _ _ _ p in
     let room = room_of c.args.session.now p.window c.args.parcel q.room in
     record {
@@ -17,14 +17,13 @@ settle_in_order-requires g c =
       remains = λ w at. subst (λ (v : WindowValue). is_done c.args.session.now.front v.lo v.hi ≡ false) (same_Some p.window w (sym p.at ∙ at)) q.remains;
       room = subst (λ (l : List Document). c.args.session.now.counts.read + length l ≤ most) (sym docs) room.read;
       made = subst (λ (l : List Document). AreMade l c.into_parts-asked.result.3.items) (sym c.deref.ensures.value) c.into_parts-asked.ensures.made;
-      arrivals = subst (λ (l : List Document). AreArrivalsOf l c.into_parts-asked.result.4.items) (sym c.deref.ensures.value) c.into_parts-asked.ensures.arrivals;
     }
 
 pub returns-in-Err : goal.returns-in-Err
 returns-in-Err g c =
     let read = c.deref.result.now in
     let docs : read ≡ c.args.parcel.docs = c.deref.ensures.value ∙ sym (ap (λ (p : ParcelValue). p.docs) c.into_parts-asked.ensures.parts) in
-    let p = subst (λ (v : ParcelValue). Passes c.args.session.now v c.in_ok-checked.checked.place c.in_ok-checked.checked.leaves c.in_ok-checked.checked.asked) c.parcel.ensures c.in_ok-checked.ensures.ok in
+    let p = c.in_ok-checked.ensures.ok in
     let before = settling_at c.args.db.now c.args.session.now in
     let after = settling_at c.settle_in_order.new.db c.settle_in_order.new.session in
     let refuses = g.F.WriteFilter.refuses c.args.filter.now in
@@ -43,7 +42,7 @@ returns-in-Err g c =
 
 pub mark_window-requires : goal.mark_window-requires
 mark_window-requires g c =
-    let p = subst (λ (v : ParcelValue). Passes c.args.session.now v c.in_ok-checked.checked.place c.in_ok-checked.checked.leaves c.in_ok-checked.checked.asked) c.parcel.ensures c.in_ok-checked.ensures.ok in
+    let p = c.in_ok-checked.ensures.ok in
     let bounded = subst (λ (s : SessionValue). window_bounds s.windows ≡ bounds s.front) c.session.view_is c.session.invariant.bounds in
     let q = passed_by c.args.session.now c.args.parcel _ _ _ p in
     let room = room_of c.args.session.now p.window c.args.parcel q.room in
@@ -63,7 +62,7 @@ mark_window-requires g c =
 pub returns-in-Err-mark_window : goal.returns-in-Err-mark_window
 returns-in-Err-mark_window g c =
     let docs = ap (λ (p : ParcelValue). p.docs) c.into_parts-asked.ensures.parts in
-    let p = subst (λ (v : ParcelValue). Passes c.args.session.now v c.in_ok-checked.checked.place c.in_ok-checked.checked.leaves c.in_ok-checked.checked.asked) c.parcel.ensures c.in_ok-checked.ensures.ok in
+    let p = c.in_ok-checked.ensures.ok in
     let before = settling_at c.args.db.now c.args.session.now in
     let mid = settling_at c.settle_in_order.new.db c.settle_in_order.new.session in
     let after = settling_at c.settle_in_order.new.db c.mark_window.new.session in
@@ -83,14 +82,14 @@ returns-in-Err-mark_window g c =
 
 pub overflow_sub-result : goal.overflow_sub-result
 overflow_sub-result g c =
-    let p = subst (λ (v : ParcelValue). Passes c.args.session.now v c.in_ok-checked.checked.place c.in_ok-checked.checked.leaves c.in_ok-checked.checked.asked) c.parcel.ensures c.in_ok-checked.ensures.ok in
+    let p = c.in_ok-checked.ensures.ok in
     let before = settling_at c.args.db.now c.args.session.now in
     let grown = grown_by _ _ before _ _ _ _ (reached_whole _ _ before _ _ (c.in_default.ensures.ok p.window p.at)) in
     omega (arith, grown.written, c.mark_window.ensures.written, ap (λ (s : SessionValue). s.counts.written) c.session.view_is, ap (λ (s : SessionValue). s.counts.written) c.session-2.view_is)
 
 pub overflow_sub-result-2 : goal.overflow_sub-result-2
 overflow_sub-result-2 g c =
-    let p = subst (λ (v : ParcelValue). Passes c.args.session.now v c.in_ok-checked.checked.place c.in_ok-checked.checked.leaves c.in_ok-checked.checked.asked) c.parcel.ensures c.in_ok-checked.ensures.ok in
+    let p = c.in_ok-checked.ensures.ok in
     let before = settling_at c.args.db.now c.args.session.now in
     let grown = grown_by _ _ before _ _ _ _ (reached_whole _ _ before _ _ (c.in_default.ensures.ok p.window p.at)) in
     omega (arith, grown.failures, c.mark_window.ensures.failures, ap (λ (s : SessionValue). s.counts.failures) c.session.view_is, ap (λ (s : SessionValue). s.counts.failures) c.session-2.view_is)
@@ -98,7 +97,7 @@ overflow_sub-result-2 g c =
 pub returns : goal.returns
 returns g c =
     let docs = ap (λ (p : ParcelValue). p.docs) c.into_parts-asked.ensures.parts in
-    let p = subst (λ (v : ParcelValue). Passes c.args.session.now v c.in_ok-checked.checked.place c.in_ok-checked.checked.leaves c.in_ok-checked.checked.asked) c.parcel.ensures c.in_ok-checked.ensures.ok in
+    let p = c.in_ok-checked.ensures.ok in
     let before = settling_at c.args.db.now c.args.session.now in
     let mid = settling_at c.settle_in_order.new.db c.settle_in_order.new.session in
     let after = settling_at c.settle_in_order.new.db c.mark_window.new.session in

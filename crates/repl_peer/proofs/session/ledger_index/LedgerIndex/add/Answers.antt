@@ -1,4 +1,4 @@
-use Rattle.proof_prelude.proofs.{◌≡◌, Bool, false, ◌||◌, ◌&&◌, Some, None, sym, ap, ap₂, ◌∙◌, cond, lookup, option_map_or, bytes_eq, or_assoc, is_some}
+use Rattle.proof_prelude.proofs.{◌≡◌, false, ◌||◌, ◌&&◌, Some, None, sym, ap, ap₂, ◌∙◌, cond, lookup, option_map_or, bytes_eq, or_assoc, is_some}
 use Rattle.std.specs.Arc.{arc_value}
 use Rattle.rev_core.specs.{RevId, is_among}
 use Rattle.doc_json.specs.Document.{Document}

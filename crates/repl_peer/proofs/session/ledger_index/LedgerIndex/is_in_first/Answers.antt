@@ -1,4 +1,4 @@
-use Rattle.proof_prelude.proofs.{◌≡◌, false, sym, ap, ◌∙◌, option_copied, option_map_or}
+use Rattle.proof_prelude.proofs.{false, sym, ap, ◌∙◌, option_copied, option_map_or}
 use Rattle.std.specs.Arc.{arc_value}
 use Rattle.rev_core.specs.{is_among}
 use Rattle.doc_json.specs.Document.{Document}

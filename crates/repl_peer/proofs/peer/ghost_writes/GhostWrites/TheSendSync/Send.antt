@@ -1,0 +1,6 @@
+-- The value owns nothing, so any thread may receive it.
+use denote.Param.Send.{IsSend, owning_send}
+use Rattle.repl_peer.specs.contracts.peer.ghost_writes.GhostWrites.{the_row, the_type}
+
+pub send : IsSend the_row
+send = owning_send the_type tt (λ d. tt) (λ k x w. tt)
