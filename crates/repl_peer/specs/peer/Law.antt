@@ -74,8 +74,8 @@ pub record LawfulSessions (refuses : Document → Bool) (p : PeerValue) : Type 0
   pub based : AllBased p.sessions
   pub distinct : IsDistinct nat_eq (session_numbers p.sessions)
 
--- The invariant of peer p. The sessions of peer p satisfy the invariant of sessions. For each revision, peer p stores
--- the local write or the session's row from which the revision came (its origin). If the generations of a local write
+-- The invariant of peer p. The sessions of peer p satisfy the invariant of sessions. For each revision, peer p has the
+-- local write or the session's row from which the revision came (its origin). If the generations of a local write
 -- fall by one per revision, consecutive revisions are child and parent in the document's tree (`StandsIn`).
 pub record Lawful (refuses : Document → Bool) (p : PeerValue) : Type 0 where
   pub sessions : LawfulSessions refuses p

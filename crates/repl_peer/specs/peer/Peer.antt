@@ -1,11 +1,12 @@
 -- Defines peers and sessions, as specified in docs/PROFILE.md, "Sessions of a peer".
 --
 -- A peer is a database with the state that replication needs. A target has a session for each replication into the
--- target. A session stores the windows of the source's changes feed, and which of these windows are done. For each
--- received document, a session records whether the target stored the document (an arrival) or refused the document (a
--- ledger row). The target's trees have the revisions of all arrivals. A source has a log for each replication from the
+-- target. A session has the windows of the source's changes feed, and which of these windows are done. For each received
+-- document, a session has an arrival if the target stored the document, or a ledger row if the target refused the
+-- document. The target's trees have the revisions of all arrivals. A source has a log for each replication from the
 -- source, with the sequence that the target recorded in each session. The common checkpoint of the next replication is
--- read from the logs of both sides. A peer also stores its local writes, so that each revision of a tree has an origin.
+-- read from the logs of both sides. A peer also has its local writes, so that each revision of a tree has an origin.
+-- Local writes and arrivals exist for contracts only. At run time, a peer stores only their numbers.
 use Rattle.std.specs.Prelude.{ℕ, ◌==◌, Bool, nat_le, if◌then◌else◌, List, [], map, Option, Result, Ok, Err}
 use Rattle.std.specs.List.{find, list_any}
 use Rattle.rev_core.specs.Rev.{RevId}

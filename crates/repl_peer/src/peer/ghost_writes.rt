@@ -28,8 +28,8 @@ unsafe impl Sync for GhostWrites {}
 
 /// The writes from which `GhostWrites::of` creates the ghost value of a list of writes.
 ///
-/// A variant has only references to built-in types and to `GhostWrites`. The prover cannot use the enum in a function
-/// that does not name another type of a variant.
+/// The variants refer only to `GhostWrites` and to built-in types. If a variant referred to another crate's type with a
+/// `Model` (for example `DocId`), the compiler could not prove a function that uses `Noted` but not this type.
 #[derive(Clone, Copy, Drop)]
 enum Noted<'a> {
     /// No writes.

@@ -79,8 +79,8 @@ impl Locals {
 /// Stores a user's document in the database. If the put changes the database, the call adds the put to the local
 /// writes.
 ///
-/// The number of local writes is at most the database's update sequence, because each local write takes a sequence. The
-/// sum `count + 1` therefore does not overflow.
+/// The clause `counted` bounds the number of local writes by the database's update sequence, because each local write
+/// takes a sequence. The number of local writes therefore fits into 64 bits.
 pub(crate) fn load(db: &mut Database, locals: &mut Locals, doc: &Doc) -> Result<Put, BaseFault>
     requires counted { length locals.old ≤ db.old.update_seq }
     ensures answer { PutGives result (put_answer db.old doc.now) }
