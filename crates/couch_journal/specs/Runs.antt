@@ -1,5 +1,5 @@
 -- This file defines the effect of running the program `couch_journal` with any reader and any writer.
-use Rattle.std.specs.Prelude.{◌≡◌, ◌⊎◌, ◌++◌, [], ℕ, List, suc, Bool, true, false, All, Option, is_none, option_map, None, Some, Result, Ok, Err}
+use Rattle.std.specs.Prelude.{◌≡◌, ◌⊎◌, ◌++◌, [], ℕ, List, length, suc, Bool, true, false, All, Option, is_none, option_map, None, Some, Result, Ok, Err}
 use Rattle.json.specs.Json.{Json, Items}
 use Rattle.json.specs.Find.{as_array}
 use Rattle.script_engine.specs.declared.fault.ScriptFault.{ScriptFault}
@@ -17,6 +17,7 @@ use Rattle.journal_tasks.specs.Missing.{missing_in_input, missing_text, wrong_di
 use Rattle.journal_tasks.specs.Naming.{name_lines}
 use Rattle.journal_tasks.specs.Receiving.{lacks_any, passed_on, received_text, wrong_received}
 use Rattle.journal_tasks.specs.Splitting.{complete_text, parts_text, unended_line}
+use Rattle.journal_tasks.specs.Stating.{is_damaged, place_of, states_text, wrong_in}
 use Rattle.journal_responses.specs.Infos.{info_text, is_info}
 use Rattle.journal_responses.specs.Pages.{page_in}
 use Rattle.journal_responses.specs.Refusals.{any_refused, refused_text}
@@ -32,7 +33,7 @@ use Rattle.couch_journal.specs.declared.run.Response.TheVariants.{Page, Refused,
 use Rattle.couch_journal.specs.declared.tasks.Task.{Task}
 use Rattle.couch_journal.specs.declared.tasks.Task.TheVariants as tasks
 use Rattle.couch_journal.specs.Options.{Refuses, Says}
-use Rattle.couch_journal.specs.Status.{missing_or_done, other_or_done, unflushed, wrong_or}
+use Rattle.couch_journal.specs.Status.{damaged_or, missing_or_done, other_or_done, unflushed, wrong_or}
 use Rattle.couch_journal.specs.Tasks.{IsTaskOf, IsTaskless}
 use Rattle.couch_journal.specs.declared.options.NoTask.{NoTask}
 use Rattle.couch_journal.specs.declared.options.NoTask.TheVariants.{Words, Unknown, Memory}
@@ -166,10 +167,19 @@ RunsName word ended input text result =
     RunsLines (λ lines. name_lines word (leaves_in lines)) (λ lines rest. name_lines word (leaves_in lines))
     (λ lines rest. wrong_or (wrong_line is_wrong lines rest) outcomes.Done) ended input text result
 
+-- The effect of running the task `states`: its output is the last state of each document of the journal. If the journal
+-- is damaged, or a line of the journal is wrong, the output is empty. If `unverified` is true, the checksums of the
+-- journal are ignored.
+abbrev pub RunsStates : Bool → Type 0 → List ℕ → List ℕ → Result Outcome ScriptFault → Type 0
+RunsStates unverified ended input text result =
+    RunsLines (λ lines. []) (states_text unverified)
+    (λ lines rest. damaged_or (is_damaged unverified lines rest) (length (place_of unverified lines).confirmed)
+    (wrong_or (wrong_in lines rest) outcomes.Done)) ended input text result
+
 -- ---- the tasks
 
--- How the output and the result of a task depend on the task's input. For a task other than `Page`, `Refused`, `Info`,
--- `Seal`, `Ask` and `Received`, every output and every result is allowed.
+-- How the output and the result of a task depend on the task's input. For the tasks `Confirm`, `Select` and
+-- `Conflicts`, every output and every result is allowed.
 abbrev pub RunsTask : Task → Options → Type 0 → List ℕ → List ℕ → Result Outcome ScriptFault → Type 0
 RunsTask (tasks.Page several) o ended input text result = RunsResponse (Page several) ended input text result
 RunsTask tasks.Refused o ended input text result = RunsResponse Refused ended input text result
@@ -182,6 +192,7 @@ RunsTask tasks.Lacking o ended input text result = RunsLacking ended input text 
 RunsTask (tasks.Compare documents) o ended input text result = RunsCompare documents ended input text result
 RunsTask (tasks.Parts bytes lines) o ended input text result = RunsParts (bytes, lines) ended input text result
 RunsTask (tasks.Name word) o ended input text result = RunsName word.now ended input text result
+RunsTask (tasks.States unverified) o ended input text result = RunsStates unverified ended input text result
 RunsTask other o ended input text result = Unit {0}
 
 -- ---- the program

@@ -1,6 +1,6 @@
 //! The outcome of a run of the program.
 ghost use Rattle.std.specs.Prelude.{◌≡◌};
-ghost use Rattle.couch_journal.specs.Status.{missing_or_done, other_or_done, wrong_or};
+ghost use Rattle.couch_journal.specs.Status.{damaged_or, missing_or_done, other_or_done, wrong_or};
 
 use crate::options::NoTask;
 use journal_responses::Said;
@@ -42,6 +42,18 @@ pub(crate) fn wrong_or(wrong: Option<u64>, otherwise: Outcome) -> Outcome
     match wrong {
         Some(line) => Outcome::Wrong(line),
         None => otherwise,
+    }
+}
+
+/// Returns the outcome of a task that reads a journal with `lines` confirmed lines. If the journal is not damaged, the
+/// outcome is `otherwise`.
+pub(crate) fn damaged_or(damaged: bool, lines: u64, otherwise: Outcome) -> Outcome
+    ensures { result ≡ damaged_or damaged lines otherwise }
+{
+    if damaged {
+        Outcome::Damaged(lines)
+    } else {
+        otherwise
     }
 }
 

@@ -5,16 +5,16 @@ ghost use Rattle.json.specs.Value.{value_view};
 ghost use Rattle.script_engine.specs.Device.{FailsOnce};
 ghost use Rattle.journal_responses.specs.Responses.{IsOther, IsSaid};
 ghost use Rattle.couch_journal.specs.Status.{missing_or_done};
-ghost use Rattle.couch_journal.specs.Runs.{IsNotShown, IsShown, RunsAsk, RunsCompare, RunsDiff, RunsLacking, RunsName, RunsParts, RunsReceived, RunsResponse, RunsSeal, RunsTask, RunsWords, Shows, ShowsNothing};
+ghost use Rattle.couch_journal.specs.Runs.{IsNotShown, IsShown, RunsAsk, RunsCompare, RunsDiff, RunsLacking, RunsName, RunsParts, RunsReceived, RunsResponse, RunsSeal, RunsStates, RunsTask, RunsWords, Shows, ShowsNothing};
 
-use crate::ended::{Ended, Outcome, missing_or_done, other_or_done, wrong_or};
+use crate::ended::{Ended, Outcome, damaged_or, missing_or_done, other_or_done, wrong_or};
 use crate::options::{NoTask, Options, matches_of, options_of};
 use crate::tasks::{Task, task_of};
 use journal_core::seal_block;
 use journal_responses::{Said, info_of, page_of, read_said, refused_of};
 use journal_tasks::{
-    Conflicts, Filter, Select, States, ask_leaves, compare_lists, confirm_journal, diff_leaves,
-    lacking_leaves, name_leaves, receive_leaves, split_lines,
+    Conflicts, Filter, Select, ask_leaves, compare_lists, confirm_journal, diff_leaves,
+    lacking_leaves, last_states, name_leaves, receive_leaves, split_lines,
 };
 use json::{Scratch, Value};
 use line_reader::{LineTask, read_all, run_task};
@@ -224,7 +224,8 @@ fn run_confirm<R: ScriptRead, W: ScriptWrite>(
     }
 }
 
-#[tactic(auto, using(crate::proofs::Bytes::nothing_passed))]
+/// Prints the last state of each document of a journal. If `unverified` is true, the task ignores the journal's
+/// checksums.
 fn run_states<R: ScriptRead, W: ScriptWrite>(
     alloc: Global,
     unverified: bool,
@@ -232,14 +233,20 @@ fn run_states<R: ScriptRead, W: ScriptWrite>(
     writer: &mut W,
 ) -> Result<Outcome, ScriptFault>
     ensures { (input text : List ℕ) × Appends (R.taken reader.old) (R.taken reader.new) input
-        × Appends (W.held writer.old) (W.held writer.new) text }
+        × Appends (W.held writer.old) (W.held writer.new) text
+        × RunsStates unverified (R.ended reader.new) input text result }
 {
-    let mut task = States::new(alloc, unverified)?;
-    run_lines(alloc, &mut task, reader, writer)?;
-    if task.is_damaged() {
-        return Ok(Outcome::Damaged(task.confirmed_lines()));
+    match last_states(alloc, unverified, reader, writer) {
+        Ok(task) => {
+            let otherwise = wrong_or(task.wrong(), Outcome::Done);
+            Ok(damaged_or(
+                task.is_damaged(),
+                task.confirmed_lines(),
+                otherwise,
+            ))
+        }
+        Err(fault) => Err(fault),
     }
-    Ok(wrong_or(task.wrong(), Outcome::Done))
 }
 
 /// Returns the filter that the options of the task `select` describe.

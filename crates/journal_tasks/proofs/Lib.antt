@@ -11,14 +11,18 @@ pub mod Named
 pub mod Receiving
 pub mod Requested
 pub mod Splits
+pub mod Stated
+pub mod StateMaps
 pub use Arguments.{done_for, stopped_for}
 pub use Asked.{ask_end, ask_line, asked_items-append, has_begun-append, leaves_in-push}
 pub use Compared.{compare_early, compare_first, compare_second, compare_separator, ids_named, ids_pair, leaves_named, leaves_pair}
 pub use Counts.{count_end, count_line, count_none}
 pub use Diffed.{diff_line}
 pub use Lacked.{lacking_first, lacking_response, lacking_separator}
-pub use Lookups.{doc_added, doc_written, missing_found, rev_found, revs_found}
+pub use Lookups.{any_key, at_entry, doc_added, doc_written, missing_found, rev_found, revs_found}
 pub use Named.{named_end, named_step}
 pub use Receiving.{break_step, received_right, received_wrong, request_step, response_step}
 pub use Requested.{doc_put, texts_added}
 pub use Splits.{on_all, split_next, split_same}
+pub use Stated.{Verified, docs_at, docs_by, docs_put, put_again, reading_body, reading_sum, states_push, whole_before}
+pub use StateMaps.{leaf_added, rev_added, rev_kept, rev_known, state_found, state_put, state_written}

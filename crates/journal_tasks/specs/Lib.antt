@@ -11,6 +11,7 @@ pub mod Naming
 pub mod Receiving
 pub mod Selecting
 pub mod Splitting
+pub mod Stating
 pub use Arguments.{EndsFor, StepsFor}
 pub use Asking.{HasAsked, IsAsking, ask_body, asked_items, asked_leaf, has_begun}
 pub use Comparing.{HasCompared, IsComparing, compared, compared_by, compared_line, compared_text, ids_in, list_flags, named_leaves, names_id, wrong_compared}
@@ -23,3 +24,4 @@ pub use Missing.{HasLacked, IsLacking, are_about, diffed_docs, diffed_flags, is_
 pub use Naming.{HasNamed, IsNaming, name_line, name_lines}
 pub use Receiving.{DocView, HasReceived, IsReceiving, WantedView, answered_by, doc_at, doc_of, doc_or_new, doc_view, head_of, heads_in, is_answer, is_empty, is_marked, is_received, is_requested, is_stored, is_unnamed, lacks_any, lacks_by, leaf_at, missing_in, named, passed_line, passed_on, received_by, received_leaves, received_text, requested_by, requested_in, told, told_by, told_in, told_of, unmarked, wanted_at, wanted_revs, wanted_view, with_leaf, with_wanted, wrong_flags, wrong_received}
 pub use Splitting.{HasSplit, IsSplitting, complete_text, fits, has_space, last_text, part_text, parts_text, printed_part, split, unended_line, with_line}
+pub use Stating.{HasStated, IsReading, IsStating, StateView, StatesView, entries_of, head_in, head_read, is_damaged, is_right, is_wrong_line, last_state, no_state, place_of, put_at, rev_about, state_about, state_at, state_by, state_line, state_lines, state_of, state_or_none, state_view, stated, stated_by, stated_ids, states_of, states_text, states_view, stored_revs, value_at, with_rev, wrong_in}

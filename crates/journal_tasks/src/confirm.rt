@@ -1,6 +1,7 @@
 //! The task that finds out which part of a journal the journal's checksums confirm.
-ghost use Rattle.std.specs.Prelude.{ℕ, List, OnOk, ⊤};
+ghost use Rattle.std.specs.Prelude.{◌≡◌, ◌&&◌, ℕ, List, OnOk, is_none, is_some, length, not, ⊤};
 ghost use Rattle.std.specs.Io.KnownBytes.{Appends};
+ghost use Rattle.journal_core.specs.Places.{IsAt, Place, is_confirmed};
 
 use crate::lacks::Lacks;
 use itoa::Buffer;
@@ -79,22 +80,31 @@ impl Confirm {
     }
 
     /// Returns the number of confirmed lines of the journal.
-    pub fn confirmed_lines(&self) -> u64 {
+    pub fn confirmed_lines(&self) -> u64
+        ensures { (place : Place) → IsAt self.now.blocks place → result ≡ length place.confirmed }
+    {
         self.blocks.lines()
     }
 
     /// Whether the checksums confirm the complete input.
-    pub fn is_confirmed(&self) -> bool {
+    pub fn is_confirmed(&self) -> bool
+        ensures { (place : Place) → IsAt self.now.blocks place
+            → result ≡ (not self.now.cut && is_confirmed place) }
+    {
         !self.cut && self.blocks.is_confirmed()
     }
 
     /// Whether two conditions hold: the first input line has a document, and no input line has a checksum.
-    pub fn is_without_sums(&self) -> bool {
+    pub fn is_without_sums(&self) -> bool
+        ensures { result ≡ (self.now.first_leaf && not self.now.sums) }
+    {
         self.first_leaf && !self.sums
     }
 
     /// Whether the caller gave a sequence that no confirmed block has.
-    pub fn is_not_found(&self) -> bool {
+    pub fn is_not_found(&self) -> bool
+        ensures { result ≡ (is_some self.now.at && is_none self.now.found) }
+    {
         self.at.is_some() && self.found.is_none()
     }
 

@@ -2,12 +2,12 @@
 ghost use Rattle.std.specs.Prelude.{◌≡◌, ⊤, length, option_map, string_bytes};
 ghost use Rattle.journal_tasks.specs.Selecting.{is_selected};
 
-use crate::count::Count;
-use crate::states::StateMap;
-use indexmap::IndexMap;
-use journal_core::{Blocks, Took, added};
-use journal_lines::{Entry, Leaf, entry_of};
-use json::Scratch;
+use crate::journal::Journal;
+use crate::numbers::{Numbers, number_of, put_number};
+use crate::state_map::StateMap;
+use indexmap::{IndexMap, IndexSet};
+use journal_core::added;
+use journal_lines::Leaf;
 use line_reader::LineTask;
 use sha2::{Digest, Sha256};
 use std::alloc::{AllocError, Global};
@@ -32,55 +32,133 @@ pub struct Filter {
 #[derive(Drop)]
 pub struct Select {
     alloc: Global,
-    scratch: Scratch,
-    count: Count,
-    blocks: Blocks,
+    journal: Journal,
     size: u64,
     filter: Filter,
+    /// The number of bytes that were read of the journal's first copy.
     bytes: u64,
-    map: StateMap,
-    lines: Vec<IndexMap<String, u64>>,
+    /// For each leaf, the number of the last line of the first copy that has the leaf.
+    numbers: Numbers,
     hasher: Sha256,
+    /// The hash of the journal's first copy, after the copy was read.
     first: Option<[u8; 32]>,
-    selected: Vec<u64>,
-    next: usize,
+    /// The numbers of the lines to print.
+    selected: IndexSet<u64>,
+    /// The number of lines that were read of the journal's second copy.
+    seconds: u64,
     damaged: bool,
     lacks: bool,
     differs: bool,
 }
 
+/// Whether a document with the given id and leaves is selected.
+fn is_selected(filter: &Filter, id: &str, revs: &[String]) -> bool
+    ensures { result ≡ is_selected filter.now.several (option_map string_bytes filter.now.id) id.now (length revs.now) }
+{
+    if filter.several && revs.len() < 2 {
+        return false;
+    }
+    match &filter.id {
+        Some(only) => only.as_str() == id,
+        None => true,
+    }
+}
+
+/// Selects the last line that has a leaf. Returns whether no line has the leaf.
+fn select_leaf(
+    numbers: &Numbers,
+    selected: &mut IndexSet<u64>,
+    id: &str,
+    rev: &str,
+) -> Result<bool, AllocError> {
+    match number_of(numbers, id, rev) {
+        Some(number) => {
+            selected.insert(number)?;
+            Ok(false)
+        }
+        None => Ok(true),
+    }
+}
+
+/// Selects, for each leaf of a document, the last line that has the leaf. Returns whether a leaf has no line.
+fn select_doc(
+    numbers: &Numbers,
+    selected: &mut IndexSet<u64>,
+    id: &str,
+    revs: &[String],
+) -> Result<bool, AllocError> {
+    let mut lacks = false;
+    for rev in revs {
+        let lacking = select_leaf(numbers, selected, id, rev.as_str())?;
+        lacks = lacks || lacking;
+    }
+    Ok(lacks)
+}
+
+/// Selects, for each leaf of a selected document, the last line that has the leaf. Returns whether a leaf of a selected
+/// document has no line.
+fn select_all(
+    numbers: &Numbers,
+    states: &StateMap,
+    filter: &Filter,
+    selected: &mut IndexSet<u64>,
+) -> Result<bool, AllocError> {
+    let mut lacks = false;
+    for index in 0..states.len() {
+        let Some((id, state)) = states.get_index(index) else {
+            return Ok(lacks);
+        };
+        let revs = state.revs.as_slice();
+        if is_selected(filter, id.as_str(), revs) {
+            let lacking = select_doc(numbers, selected, id.as_str(), revs)?;
+            lacks = lacks || lacking;
+        }
+    }
+    Ok(lacks)
+}
+
+/// Whether two hashes differ.
+fn is_other(one: &[u8; 32], other: &[u8; 32]) -> bool {
+    one.as_slice() != other.as_slice()
+}
+
+/// Returns the hash of all bytes that the hasher has read, and begins a new hash.
+fn take_hash(hasher: &mut Sha256) -> [u8; 32] {
+    let old = mem::replace(hasher, Sha256::new());
+    old.finalize()
+}
+
 impl Select {
     /// Creates the task for a journal of `size` bytes.
     pub fn new(alloc: Global, size: u64, filter: Filter) -> Result<Select, AllocError> {
-        let blocks = Blocks::new(alloc)?;
-        Ok(Select {
+        let journal = Journal::new(alloc, filter.unverified)?;
+        let mut task = Select {
             alloc,
-            scratch: Scratch::new(alloc),
-            count: Count::new(),
-            blocks,
+            journal,
             size,
             filter,
             bytes: 0,
-            map: StateMap::new(alloc),
-            lines: Vec::new(alloc),
+            numbers: IndexMap::new(alloc),
             hasher: Sha256::new(),
             first: None,
-            selected: Vec::new(alloc),
-            next: 0,
+            selected: IndexSet::new(alloc),
+            seconds: 0,
             damaged: false,
             lacks: false,
             differs: false,
-        })
+        };
+        task.end_first()?;
+        Ok(task)
     }
 
-    /// Returns the number (from 1) of the first input line that is not a valid line of a journal.
+    /// Returns the number (from 1) of the first line of the journal's first copy that is not a valid line of a journal.
     pub fn wrong(&self) -> Option<u64> {
-        self.count.wrong
+        self.journal.count.wrong
     }
 
-    /// Returns the number of confirmed lines of the journal.
+    /// Returns the number of confirmed lines of the journal's first copy.
     pub fn confirmed_lines(&self) -> u64 {
-        self.blocks.lines()
+        self.journal.blocks.lines()
     }
 
     /// Whether the first copy of the journal in the input is damaged. A copy is undamaged if it has exactly `size`
@@ -100,128 +178,53 @@ impl Select {
         self.lacks
     }
 
-    /// Records that the last line that was read has the given leaf.
-    fn note_leaf(&mut self, leaf: Leaf) -> Result<(), AllocError> {
-        self.map.add(&leaf)?;
-        let number = self.count.lines;
-        for _ in self.lines.len()..self.map.states.len() {
-            self.lines.push(IndexMap::new(self.alloc))?;
-        }
-        if let Some(place) = self.map.places.get(leaf.id.as_str()) {
-            if let Some(lines) = self.lines.get_mut(*place) {
-                lines.insert(leaf.rev, number)?;
-            }
-        }
-        Ok(())
-    }
-
-    /// Reads a line of the journal's first copy. The line must not be a `sum` line, which is the end of a block.
-    fn note(&mut self, line: &[u8]) -> Result<(), AllocError> {
-        match entry_of(self.alloc, &mut self.scratch, line)? {
-            Entry::State(leaves) => self.map.name(leaves),
-            Entry::Leaf(leaf) => self.note_leaf(leaf),
-            Entry::Lacks(_) => Ok(()),
-            Entry::Wrong => {
-                self.count.fail();
-                Ok(())
-            }
-        }
-    }
-
-    /// Reads a line of the journal's first copy. The line may be a `sum` line, which is the end of a block.
+    /// Reads a line of the journal's first copy.
     fn first_line(&mut self, line: &[u8]) -> Result<(), AllocError> {
-        if !self.filter.unverified {
-            if let Took::Damaged = self.blocks.take(line)? {
-                self.damaged = true;
-                return Ok(());
-            }
+        let bytes = added(self.bytes, line.len() as u64)?;
+        self.bytes = added(bytes, 1)?;
+        if let Some(leaf) = self.journal.line(line)? {
+            put_number(
+                self.alloc,
+                &mut self.numbers,
+                leaf,
+                self.journal.count.lines,
+            )?;
         }
-        if !line.starts_with(b"sum ".as_slice()) {
-            self.note(line)?;
-        }
-        if self.bytes >= self.size {
-            self.end_first()?;
-        }
-        Ok(())
+        self.end_first()
     }
 
-    /// Checks the journal's first copy after all of its bytes were read. If the copy is not damaged, selects the lines
-    /// to print.
+    /// Checks the journal's first copy, if all of its bytes were read. If the copy is not damaged, selects the lines to
+    /// print.
     fn end_first(&mut self) -> Result<(), AllocError> {
-        if self.bytes != self.size || !self.filter.unverified && !self.blocks.is_confirmed() {
+        if self.bytes < self.size {
+            return Ok(());
+        }
+        self.first = Some(take_hash(&mut self.hasher));
+        if self.bytes != self.size || !self.journal.is_confirmed() {
             self.damaged = true;
             return Ok(());
         }
-        self.select_all()?;
-        self.selected.sort()?;
-        self.first = Some(self.take_hash());
-        self.bytes = 0;
-        self.count.lines = 0;
-        Ok(())
-    }
-
-    /// Returns the hash of all bytes since the start or the last call of `take_hash`, and begins a new hash.
-    fn take_hash(&mut self) -> [u8; 32] {
-        let hasher = mem::replace(&mut self.hasher, Sha256::new());
-        hasher.finalize()
-    }
-
-    fn select_all(&mut self) -> Result<(), AllocError> {
-        for index in 0..self.map.places.len() {
-            self.select(index)?;
-        }
-        Ok(())
-    }
-
-    fn select(&mut self, index: usize) -> Result<(), AllocError> {
-        let Some((id, place)) = self.map.places.get_index(index) else {
-            return Ok(());
-        };
-        let Some(state) = self.map.states.get(*place) else {
-            return Ok(());
-        };
-        if !is_selected(&self.filter, id.as_str(), state.revs.as_slice()) {
-            return Ok(());
-        }
-        let lines = self.lines.get(*place);
-        for rev in state.revs.as_slice() {
-            match line_of(lines, rev.as_str()) {
-                Some(number) => self.selected.push(number)?,
-                None => self.lacks = true,
-            }
-        }
+        self.lacks = select_all(
+            &self.numbers,
+            &self.journal.states,
+            &self.filter,
+            &mut self.selected,
+        )?;
         Ok(())
     }
 
     /// Reads a line of the second copy of the journal in the input, and appends the line to the output if the line is
     /// selected.
     fn second_line(&mut self, line: &[u8], text: &mut Vec<u8>) -> Result<(), AllocError> {
-        if self.selected.get(self.next).copied() != Some(self.count.lines) {
+        self.seconds = added(self.seconds, 1)?;
+        if self.damaged || !self.journal.count.is_right() || !self.selected.contains(&self.seconds)
+        {
             return Ok(());
         }
-        self.next = self.next.saturating_add(1);
         text.extend_from_slice(line)?;
         text.push(b'\n')?;
         Ok(())
     }
-}
-
-/// Whether a document with the given id and leaves is selected.
-fn is_selected(filter: &Filter, id: &str, revs: &[String]) -> bool
-    ensures { result ≡ is_selected filter.now.several (option_map string_bytes filter.now.id) id.now (length revs.now) }
-{
-    if filter.several && revs.len() < 2 {
-        return false;
-    }
-    match &filter.id {
-        Some(only) => only.as_str() == id,
-        None => true,
-    }
-}
-
-/// Returns the number of the last line that has a given leaf, if such a line exists.
-fn line_of(lines: Option<&IndexMap<String, u64>>, rev: &str) -> Option<u64> {
-    lines?.get(rev).copied()
 }
 
 impl LineTask for Select {
@@ -230,12 +233,6 @@ impl LineTask for Select {
     ghost ends = { λ _ _ _ _. ⊤ };
 
     fn line(&mut self, line: &[u8], text: &mut Vec<u8>) -> Result<(), AllocError> {
-        self.count.add()?;
-        if self.damaged || !self.count.is_right() {
-            return Ok(());
-        }
-        let bytes = added(self.bytes, line.len() as u64)?;
-        self.bytes = added(bytes, 1)?;
         self.hasher.update(line);
         self.hasher.update(b"\n".as_slice());
         if self.first.is_none() {
@@ -245,15 +242,9 @@ impl LineTask for Select {
     }
 
     fn end(&mut self, rest: &[u8], _text: &mut Vec<u8>) -> Result<(), AllocError> {
-        if self.damaged || !self.count.is_right() {
-            return Ok(());
-        }
-        if self.size == 0 {
-            self.end_first()?;
-        }
-        let second = self.take_hash();
-        match self.first {
-            Some(first) => self.differs = first != second || !rest.is_empty(),
+        let second = take_hash(&mut self.hasher);
+        match &self.first {
+            Some(first) => self.differs = is_other(first, &second) || !rest.is_empty(),
             None => self.damaged = true,
         }
         Ok(())

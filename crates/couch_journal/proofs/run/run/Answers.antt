@@ -23,9 +23,7 @@ returns-in-Confirm g c =
     task_ran c.args.task.now (tasks.Confirm c.in-Confirm.at) c.args.options.now _ _ _ _ _ c.run_confirm.result c.in-Confirm.is (t.0, t.1, t.2, t.3, tt)
 
 pub returns-in-States : goal.returns-in-States
-returns-in-States g c =
-    let t = c.run_states.ensures in
-    task_ran c.args.task.now (tasks.States c.in-States.unverified) c.args.options.now _ _ _ _ _ c.run_states.result c.in-States.is (t.0, t.1, t.2, t.3, tt)
+returns-in-States g c = task_ran c.args.task.now (tasks.States c.in-States.unverified) c.args.options.now _ _ _ _ _ c.run_states.result c.in-States.is c.run_states.ensures
 
 pub returns-in-Select : goal.returns-in-Select
 returns-in-Select g c =
