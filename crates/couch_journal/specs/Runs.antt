@@ -16,6 +16,7 @@ use Rattle.journal_tasks.specs.Lists.{is_wrong, leaves_in}
 use Rattle.journal_tasks.specs.Missing.{missing_in_input, missing_text, wrong_diffed}
 use Rattle.journal_tasks.specs.Naming.{name_lines}
 use Rattle.journal_tasks.specs.Receiving.{lacks_any, passed_on, received_text, wrong_received}
+use Rattle.journal_tasks.specs.Selecting.{Choice, first_copy, is_copy_damaged, is_copy_other, lacks_chosen, second_copy, selected_text}
 use Rattle.journal_tasks.specs.Splitting.{complete_text, parts_text, unended_line}
 use Rattle.journal_tasks.specs.Stating.{is_damaged, place_of, states_text, wrong_in}
 use Rattle.journal_responses.specs.Infos.{info_text, is_info}
@@ -33,7 +34,7 @@ use Rattle.couch_journal.specs.declared.run.Response.TheVariants.{Page, Refused,
 use Rattle.couch_journal.specs.declared.tasks.Task.{Task}
 use Rattle.couch_journal.specs.declared.tasks.Task.TheVariants as tasks
 use Rattle.couch_journal.specs.Options.{Refuses, Says}
-use Rattle.couch_journal.specs.Status.{damaged_or, missing_or_done, other_or_done, unflushed, wrong_or}
+use Rattle.couch_journal.specs.Status.{damaged_or, differs_or, missing_or_done, other_or_done, unflushed, wrong_or}
 use Rattle.couch_journal.specs.Tasks.{IsTaskOf, IsTaskless}
 use Rattle.couch_journal.specs.declared.options.NoTask.{NoTask}
 use Rattle.couch_journal.specs.declared.options.NoTask.TheVariants.{Words, Unknown, Memory}
@@ -176,9 +177,28 @@ RunsStates unverified ended input text result =
     (λ lines rest. damaged_or (is_damaged unverified lines rest) (length (place_of unverified lines).confirmed)
     (wrong_or (wrong_in lines rest) outcomes.Done)) ended input text result
 
+-- The arguments and options of the task `select` for a journal of `size` bytes.
+abbrev pub choice_in : ℕ → Options → Choice
+choice_in size o =
+    record { size = size; several = o.several; only = option_map (λ id. id.now) o.doc; unverified = o.unverified }
+
+-- The outcome of the task `select` for the two copies `first` and `second` of a journal.
+abbrev pub select_outcome : Choice → List (List ℕ) → List (List ℕ) → List ℕ → Outcome
+select_outcome choice first second rest =
+    damaged_or (is_copy_damaged choice first) (length (place_of choice.unverified first).confirmed)
+    (wrong_or (wrong_in first []) (differs_or (is_copy_other first second rest) (missing_or_done (lacks_chosen choice first))))
+
+-- The effect of running the task `select` on two copies of a journal. For each leaf in the last state of a selected
+-- document, the output has the last line of the journal that has this leaf. If the first copy is damaged, or one of its
+-- lines is wrong, the output is empty.
+abbrev pub RunsSelect : Choice → Type 0 → List ℕ → List ℕ → Result Outcome ScriptFault → Type 0
+RunsSelect choice ended input text result =
+    RunsLines (selected_text choice) (λ lines rest. selected_text choice lines)
+    (λ lines rest. select_outcome choice (first_copy choice.size lines) (second_copy choice.size lines) rest) ended input text result
+
 -- ---- the tasks
 
--- How the output and the result of a task depend on the task's input. For the tasks `Confirm`, `Select` and
+-- How the output and the result of a task depend on the task's input. For the tasks `Confirm` and
 -- `Conflicts`, every output and every result is allowed.
 abbrev pub RunsTask : Task → Options → Type 0 → List ℕ → List ℕ → Result Outcome ScriptFault → Type 0
 RunsTask (tasks.Page several) o ended input text result = RunsResponse (Page several) ended input text result
@@ -193,6 +213,7 @@ RunsTask (tasks.Compare documents) o ended input text result = RunsCompare docum
 RunsTask (tasks.Parts bytes lines) o ended input text result = RunsParts (bytes, lines) ended input text result
 RunsTask (tasks.Name word) o ended input text result = RunsName word.now ended input text result
 RunsTask (tasks.States unverified) o ended input text result = RunsStates unverified ended input text result
+RunsTask (tasks.Select size) o ended input text result = RunsSelect (choice_in size o) ended input text result
 RunsTask other o ended input text result = Unit {0}
 
 -- ---- the program

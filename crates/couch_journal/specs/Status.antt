@@ -8,7 +8,7 @@ use Rattle.journal_responses.specs.declared.said.Said.TheVariants.{Other}
 use Rattle.couch_journal.specs.declared.options.NoTask.{NoTask}
 use Rattle.couch_journal.specs.declared.options.NoTask.TheVariants.{Words, Unknown, Memory}
 use Rattle.couch_journal.specs.declared.ended.Outcome.{Outcome}
-use Rattle.couch_journal.specs.declared.ended.Outcome.TheVariants.{Damaged, Done, Missing, Said, Wrong}
+use Rattle.couch_journal.specs.declared.ended.Outcome.TheVariants.{Damaged, Differs, Done, Missing, Said, Wrong}
 use Rattle.couch_journal.specs.declared.ended.Ended.{Ended}
 use Rattle.couch_journal.specs.declared.ended.Ended.TheVariants.{NotRun, Ran}
 
@@ -22,6 +22,11 @@ wrong_or None otherwise = otherwise
 -- and the given outcome `otherwise` if the journal is not damaged.
 abbrev pub damaged_or : Bool → ℕ → Outcome → Outcome
 damaged_or damaged lines otherwise = if damaged then Damaged lines else otherwise
+
+-- The outcome of a task that reads two copies of a journal: `Differs` if the copies differ, and the given outcome
+-- `otherwise` if they do not.
+abbrev pub differs_or : Bool → Outcome → Outcome
+differs_or differs otherwise = if differs then Differs else otherwise
 
 -- The outcome of a task is `Missing` if the task found that something is missing, and otherwise `Done`.
 abbrev pub missing_or_done : Bool → Outcome

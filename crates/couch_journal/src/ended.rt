@@ -1,6 +1,6 @@
 //! The outcome of a run of the program.
 ghost use Rattle.std.specs.Prelude.{◌≡◌};
-ghost use Rattle.couch_journal.specs.Status.{damaged_or, missing_or_done, other_or_done, wrong_or};
+ghost use Rattle.couch_journal.specs.Status.{damaged_or, differs_or, missing_or_done, other_or_done, wrong_or};
 
 use crate::options::NoTask;
 use journal_responses::Said;
@@ -55,6 +55,14 @@ pub(crate) fn damaged_or(damaged: bool, lines: u64, otherwise: Outcome) -> Outco
     } else {
         otherwise
     }
+}
+
+/// Returns the outcome of a task that reads two copies of a journal: `Differs` if the copies differ, and otherwise
+/// `otherwise`.
+pub(crate) fn differs_or(differs: bool, otherwise: Outcome) -> Outcome
+    ensures { result ≡ differs_or differs otherwise }
+{
+    if differs { Outcome::Differs } else { otherwise }
 }
 
 /// Returns the outcome `Missing` if `missing` is true, and otherwise `Done`.

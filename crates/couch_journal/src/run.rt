@@ -4,17 +4,18 @@ ghost use Rattle.std.specs.Io.KnownBytes.{Appends};
 ghost use Rattle.json.specs.Value.{value_view};
 ghost use Rattle.script_engine.specs.Device.{FailsOnce};
 ghost use Rattle.journal_responses.specs.Responses.{IsOther, IsSaid};
+ghost use Rattle.journal_tasks.specs.Selecting.{choice_of};
 ghost use Rattle.couch_journal.specs.Status.{missing_or_done};
-ghost use Rattle.couch_journal.specs.Runs.{IsNotShown, IsShown, RunsAsk, RunsCompare, RunsDiff, RunsLacking, RunsName, RunsParts, RunsReceived, RunsResponse, RunsSeal, RunsStates, RunsTask, RunsWords, Shows, ShowsNothing};
+ghost use Rattle.couch_journal.specs.Runs.{choice_in, IsNotShown, IsShown, RunsAsk, RunsCompare, RunsDiff, RunsLacking, RunsName, RunsParts, RunsReceived, RunsResponse, RunsSeal, RunsSelect, RunsStates, RunsTask, RunsWords, Shows, ShowsNothing};
 
-use crate::ended::{Ended, Outcome, damaged_or, missing_or_done, other_or_done, wrong_or};
+use crate::ended::{Ended, Outcome, damaged_or, differs_or, missing_or_done, other_or_done, wrong_or};
 use crate::options::{NoTask, Options, matches_of, options_of};
 use crate::tasks::{Task, task_of};
 use journal_core::seal_block;
 use journal_responses::{Said, info_of, page_of, read_said, refused_of};
 use journal_tasks::{
-    Conflicts, Filter, Select, ask_leaves, compare_lists, confirm_journal, diff_leaves,
-    lacking_leaves, last_states, name_leaves, receive_leaves, split_lines,
+    Conflicts, Filter, ask_leaves, compare_lists, confirm_journal, diff_leaves,
+    lacking_leaves, last_states, name_leaves, receive_leaves, select_lines, split_lines,
 };
 use json::{Scratch, Value};
 use line_reader::{LineTask, read_all, run_task};
@@ -250,7 +251,9 @@ fn run_states<R: ScriptRead, W: ScriptWrite>(
 }
 
 /// Returns the filter that the options of the task `select` describe.
-fn filter_of(alloc: Global, options: &Options<'_>) -> Result<Filter, AllocError> {
+fn filter_of(alloc: Global, options: &Options<'_>) -> Result<Filter, AllocError>
+    ensures { IfOk result (λ filter. (size : ℕ) → choice_of size filter ≡ choice_in size options.now) }
+{
     let id = match options.doc {
         Some(id) => Some(String::from_str(alloc, id)?),
         None => None,
@@ -262,7 +265,35 @@ fn filter_of(alloc: Global, options: &Options<'_>) -> Result<Filter, AllocError>
     })
 }
 
-#[tactic(auto, using(crate::proofs::Bytes::nothing_passed))]
+/// Reads two copies of a journal of `size` bytes, and prints the lines with the leaves in the last states of the selected
+/// documents.
+fn run_filtered<R: ScriptRead, W: ScriptWrite>(
+    alloc: Global,
+    size: u64,
+    filter: Filter,
+    reader: &mut R,
+    writer: &mut W,
+) -> Result<Outcome, ScriptFault>
+    ensures { (input text : List ℕ) × Appends (R.taken reader.old) (R.taken reader.new) input
+        × Appends (W.held writer.old) (W.held writer.new) text
+        × RunsSelect (choice_of size filter) (R.ended reader.new) input text result }
+{
+    match select_lines(alloc, size, filter, reader, writer) {
+        Ok(task) => {
+            let found = differs_or(task.differs(), missing_or_done(task.lacks()));
+            let otherwise = wrong_or(task.wrong(), found);
+            Ok(damaged_or(
+                task.is_damaged(),
+                task.confirmed_lines(),
+                otherwise,
+            ))
+        }
+        Err(fault) => Err(fault),
+    }
+}
+
+/// Reads two copies of a journal of `size` bytes, and prints the lines with the leaves in the last states of the
+/// documents that the options select.
 fn run_select<R: ScriptRead, W: ScriptWrite>(
     alloc: Global,
     size: u64,
@@ -271,18 +302,13 @@ fn run_select<R: ScriptRead, W: ScriptWrite>(
     writer: &mut W,
 ) -> Result<Outcome, ScriptFault>
     ensures { (input text : List ℕ) × Appends (R.taken reader.old) (R.taken reader.new) input
-        × Appends (W.held writer.old) (W.held writer.new) text }
+        × Appends (W.held writer.old) (W.held writer.new) text
+        × RunsSelect (choice_in size options.now) (R.ended reader.new) input text result }
 {
-    let filter = filter_of(alloc, options)?;
-    let mut task = Select::new(alloc, size, filter)?;
-    run_lines(alloc, &mut task, reader, writer)?;
-    if task.is_damaged() {
-        return Ok(Outcome::Damaged(task.confirmed_lines()));
+    match filter_of(alloc, options) {
+        Ok(filter) => run_filtered(alloc, size, filter, reader, writer),
+        Err(_) => Err(ScriptFault::Memory),
     }
-    if task.differs() {
-        return Ok(Outcome::Differs);
-    }
-    Ok(wrong_or(task.wrong(), missing_or_done(task.lacks())))
 }
 
 /// Reads the requested leaves and the received documents. Prints the requested documents and says which leaves were

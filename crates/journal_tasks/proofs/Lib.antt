@@ -10,6 +10,7 @@ pub mod Lookups
 pub mod Named
 pub mod Receiving
 pub mod Requested
+pub mod Selected
 pub mod Splits
 pub mod Stated
 pub mod StateMaps
@@ -26,3 +27,4 @@ pub use Requested.{doc_put, texts_added}
 pub use Splits.{on_all, split_next, split_same}
 pub use Stated.{Verified, docs_at, docs_by, docs_put, put_again, reading_body, reading_sum, states_push, whole_before}
 pub use StateMaps.{leaf_added, rev_added, rev_kept, rev_known, state_found, state_put, state_written}
+pub use Selected.{Selects, first_ends, first_goes_on, first_step, lacks_on, none_numbered, number_inserted, number_on, number_put, opening_more, second_step, select_end, select_none, stored_leaves}

@@ -71,11 +71,11 @@ put_again {A} (d ∷ ds) id a b =
 
 -- ---- the states after one line more
 
-or_shift : {A : Type 0} (a b c : Option A) → option_or (option_or a b) c ≡ option_or a (option_or b c)
+pub or_shift : {A : Type 0} (a b c : Option A) → option_or (option_or a b) c ≡ option_or a (option_or b c)
 or_shift None b c = refl
 or_shift (Some x) b c = refl
 
-or_none : {A : Type 0} (a : Option A) → option_or a None ≡ a
+pub or_none : {A : Type 0} (a : Option A) → option_or a None ≡ a
 or_none None = refl
 or_none (Some x) = refl
 
@@ -229,6 +229,6 @@ reading_body unverified lines line old new after right sum e head k v r s f is u
     let body : is_sum line ≡ false = sym s ∙ f in
     let at = verified unverified lines line old new right k v in (
       reading_more unverified lines line old new after right k v r u d a (n ∙ ap (λ z. counted_as (is_wrong_entry z) after) is ∙ ap (λ (b : Bool). counted_as b after) (sym (cond-false (is_sum line) false (is_wrong line) body)))
-      (m ∙ ap (λ z. stated_by z (states_view old.states)) is ∙ sym (cond-false (is_sum line) (states_view old.states) (stated_by (entry_in line) (states_view old.states)) body)),
+          (m ∙ ap (λ z. stated_by z (states_view old.states)) is ∙ sym (cond-false (is_sum line) (states_view old.states) (stated_by (entry_in line) (states_view old.states)) body)),
       h ∙ ap head_in is ∙ sym (read_as (place_of unverified (lines ++ line ∷ [])) line (sym at.1 ∙ r) ∙ cond-false (is_sum line) None (head_in (entry_in line)) body),
     )

@@ -28,5 +28,5 @@ pub use lacking::{Lacking, lacking_leaves};
 pub use name::{Name, name_leaves};
 pub use parts::{Parts, split_lines};
 pub use received::{Received, receive_leaves};
-pub use select::{Filter, Select};
+pub use select::{Filter, Select, select_lines};
 pub use states::{States, last_states};

@@ -26,9 +26,7 @@ pub returns-in-States : goal.returns-in-States
 returns-in-States g c = task_ran c.args.task.now (tasks.States c.in-States.unverified) c.args.options.now _ _ _ _ _ c.run_states.result c.in-States.is c.run_states.ensures
 
 pub returns-in-Select : goal.returns-in-Select
-returns-in-Select g c =
-    let t = c.run_select.ensures in
-    task_ran c.args.task.now (tasks.Select c.in-Select.size) c.args.options.now _ _ _ _ _ c.run_select.result c.in-Select.is (t.0, t.1, t.2, t.3, tt)
+returns-in-Select g c = task_ran c.args.task.now (tasks.Select c.in-Select.size) c.args.options.now _ _ _ _ _ c.run_select.result c.in-Select.is c.run_select.ensures
 
 pub returns-in-Received : goal.returns-in-Received
 returns-in-Received g c = task_ran c.args.task.now (tasks.Received c.in-Received.only_lacks) c.args.options.now _ _ _ _ _ c.run_received.result c.in-Received.is c.run_received.ensures
