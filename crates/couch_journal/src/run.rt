@@ -8,14 +8,16 @@ ghost use Rattle.journal_tasks.specs.Selecting.{choice_of};
 ghost use Rattle.couch_journal.specs.Status.{missing_or_done};
 ghost use Rattle.couch_journal.specs.Runs.{choice_in, IsNotShown, IsShown, RunsAsk, RunsCompare, RunsDiff, RunsLacking, RunsName, RunsParts, RunsReceived, RunsResponse, RunsSeal, RunsSelect, RunsStates, RunsTask, RunsWords, Shows, ShowsNothing};
 
-use crate::ended::{Ended, Outcome, damaged_or, differs_or, missing_or_done, other_or_done, wrong_or};
+use crate::ended::{
+    Ended, Outcome, damaged_or, differs_or, missing_or_done, other_or_done, wrong_or,
+};
 use crate::options::{NoTask, Options, matches_of, options_of};
 use crate::tasks::{Task, task_of};
 use journal_core::seal_block;
 use journal_responses::{Said, info_of, page_of, read_said, refused_of};
 use journal_tasks::{
-    Conflicts, Filter, ask_leaves, compare_lists, confirm_journal, diff_leaves,
-    lacking_leaves, last_states, name_leaves, receive_leaves, select_lines, split_lines,
+    Conflicts, Filter, ask_leaves, compare_lists, confirm_journal, diff_leaves, lacking_leaves,
+    last_states, name_leaves, receive_leaves, select_lines, split_lines,
 };
 use json::{Scratch, Value};
 use line_reader::{LineTask, read_all, run_task};
@@ -240,11 +242,7 @@ fn run_states<R: ScriptRead, W: ScriptWrite>(
     match last_states(alloc, unverified, reader, writer) {
         Ok(task) => {
             let otherwise = wrong_or(task.wrong(), Outcome::Done);
-            Ok(damaged_or(
-                task.is_damaged(),
-                task.confirmed_lines(),
-                otherwise,
-            ))
+            Ok(damaged_or(task.is_damaged(), task.confirmed_lines(), otherwise))
         }
         Err(fault) => Err(fault),
     }
@@ -282,11 +280,7 @@ fn run_filtered<R: ScriptRead, W: ScriptWrite>(
         Ok(task) => {
             let found = differs_or(task.differs(), missing_or_done(task.lacks()));
             let otherwise = wrong_or(task.wrong(), found);
-            Ok(damaged_or(
-                task.is_damaged(),
-                task.confirmed_lines(),
-                otherwise,
-            ))
+            Ok(damaged_or(task.is_damaged(), task.confirmed_lines(), otherwise))
         }
         Err(fault) => Err(fault),
     }
