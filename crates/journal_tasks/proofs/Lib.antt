@@ -1,11 +1,13 @@
 pub mod Arguments
 pub mod Asked
 pub mod Compared
+pub mod Confirmed
 pub mod Counts
 pub mod Diffed
 pub mod Documents
 pub mod Halves
 pub mod Lacked
+pub mod LacksTables
 pub mod Lookups
 pub mod Named
 pub mod Receiving
@@ -28,3 +30,5 @@ pub use Splits.{on_all, split_next, split_same}
 pub use Stated.{Verified, docs_at, docs_by, docs_put, put_again, reading_body, reading_sum, states_push, whole_before}
 pub use StateMaps.{leaf_added, rev_added, rev_kept, rev_known, state_found, state_put, state_written}
 pub use Selected.{Selects, first_ends, first_goes_on, first_step, lacks_on, none_numbered, number_inserted, number_on, number_put, opening_more, second_step, select_end, select_none, stored_leaves}
+pub use Confirmed.{Kept, confirm_end, confirm_line, kept_at, kept_is, on_two, report_all, report_found, with_text}
+pub use LacksTables.{kept_told, line_put, line_removed, line_written, none_stored, noted_none, noted_push, noted_untold}

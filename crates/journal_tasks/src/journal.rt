@@ -32,7 +32,7 @@ pub(crate) struct Journal {
 }
 
 /// Whether a line of a journal ends a block.
-fn is_sum(line: &[u8]) -> bool
+pub(crate) fn is_sum(line: &[u8]) -> bool
     ensures { result ≡ is_sum line.now }
 {
     line.starts_with(b"sum ".as_slice())
