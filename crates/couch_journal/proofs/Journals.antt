@@ -1,16 +1,18 @@
 -- The tasks that read journals.
-use Rattle.proof_prelude.proofs.{◌≡◌, ◌⊎◌, inl, inr, ℕ, Bool, true, false, if◌then◌else◌, Appends, Appends-nil, List, [], ◌++◌, length, All-nil, Option, Result, Err, refl, sym, subst, ap, ap₂, ◌∙◌, append-nil}
+use Rattle.proof_prelude.proofs.{◌≡◌, ◌⊎◌, inl, inr, ℕ, Bool, true, false, ◌&&◌, ◌||◌, not, nat_eq, is_none, is_some, if◌then◌else◌, Appends, Appends-nil, List, [], ◌++◌, length, All-nil, Option, Result, Err, refl, sym, subst, ap, ap₂, ◌∙◌, append-nil}
 use Rattle.script_engine.specs.{ScriptFault}
 use Rattle.script_engine.specs.Lines.{has_line_end}
 use Rattle.line_reader.specs.{Ended, HasPrintedPart, Kept}
-use Rattle.journal_core.specs.{IsAt, Place}
+use Rattle.journal_core.specs.{IsAt, Place, is_confirmed, place_after}
 use Rattle.journal_core.specs.declared.blocks.Blocks.{Blocks}
+use Rattle.journal_tasks.specs.Confirming.{HasConfirmed, is_not_found, is_without_sums}
+use Rattle.journal_tasks.specs.declared.confirm.Confirm.{Confirm}
 use Rattle.journal_tasks.specs.Selecting.{Choice, HasSelected, first_copy, is_copy_damaged, is_copy_other, lacks_chosen, prints, second_copy, selected_text}
 use Rattle.journal_tasks.specs.declared.select.Select.{Select}
 use Rattle.journal_tasks.specs.Stating.{HasStated, is_damaged, place_of, wrong_in}
 use Rattle.journal_tasks.specs.declared.states.States.{States}
-use Rattle.couch_journal.specs.Runs.{RunsLines, RunsSelect, select_outcome}
-use Rattle.couch_journal.specs.Status.{damaged_or, differs_or, missing_or_done, wrong_or}
+use Rattle.couch_journal.specs.Runs.{RunsConfirm, RunsLines, RunsSelect, select_outcome}
+use Rattle.couch_journal.specs.Status.{confirm_outcome, damaged_or, differs_or, missing_or_done, wrong_or}
 use Rattle.couch_journal.specs.declared.ended.Outcome.{Outcome}
 use Rattle.couch_journal.specs.declared.ended.Outcome.TheVariants as outcomes
 use Rattle.couch_journal.proofs.Lines.{lines_part}
@@ -70,3 +72,21 @@ select_ran choice given all taken taken' held held' r e t = (t.0, t.1, t.2, t.3,
 -- no byte went through
 pub select_failed : (choice : Choice) (all : Type 0) (taken held : Option (List ℕ)) (fault : ScriptFault) → (input : List ℕ) × (text : List ℕ) × Appends taken taken input × Appends held held text × RunsSelect choice all input text (Err fault)
 select_failed choice all taken held fault = ([], [], Appends-nil taken, Appends-nil held, inl ([], [], [], refl, All-nil (λ line. has_line_end line ≡ false), sym (selected_nothing choice)))
+
+not_not : (b : Bool) → not (not b) ≡ b
+not_not true = refl
+not_not false = refl
+
+pub confirmed_outcome : (at : Option (List ℕ)) (lines : List (List ℕ)) (rest text : List ℕ) (task : Confirm) (missing given sure all without : Bool) (count : ℕ) (result : Outcome) → HasConfirmed at lines rest text task → missing ≡ (is_some task.at && is_none task.found) → given ≡ is_some at
+    → ((place : Place) → IsAt task.blocks place → sure ≡ (not task.cut && is_confirmed place)) → all ≡ (given || sure) → without ≡ (task.first_leaf && not task.sums) → ((place : Place) → IsAt task.blocks place → count ≡ length place.confirmed) → result ≡ confirm_outcome missing all without count
+    → result ≡ confirm_outcome (is_not_found at lines) (is_some at || nat_eq (length rest) 0 && is_confirmed (place_after lines)) (is_without_sums lines rest) (length (place_after lines).confirmed)
+confirmed_outcome at lines rest text task missing given sure all without count result h m i s a w n r =
+    let place = place_after lines in
+    let whole : sure ≡ (nat_eq (length rest) 0 && is_confirmed place) = s place h.place ∙ ap (λ b. not b && is_confirmed place) h.cut_is ∙ ap (λ b. b && is_confirmed place) (not_not (nat_eq (length rest) 0)) in
+    r ∙ ap₂ (λ x y. confirm_outcome x y without count) (m ∙ h.not_found) (a ∙ ap₂ (λ x y. x || y) i whole)
+    ∙ ap₂ (λ x y. confirm_outcome (is_not_found at lines) (is_some at || nat_eq (length rest) 0 && is_confirmed place) x y) (w ∙ h.without_sums) (n place h.place)
+
+-- the sequence as bytes
+pub confirm_ran : (at given : Option (List ℕ)) (all : Type 0) (taken taken' held held' : Option (List ℕ)) (r : Result Outcome ScriptFault) → given ≡ at → (input : List ℕ) × (text : List ℕ) × Appends taken taken' input × Appends held held' text × RunsConfirm given all input text r
+    → (input : List ℕ) × (text : List ℕ) × Appends taken taken' input × Appends held held' text × RunsConfirm at all input text r
+confirm_ran at given all taken taken' held held' r e t = (t.0, t.1, t.2, t.3, subst (λ z. RunsConfirm z all t.0 t.1 r) e t.4)

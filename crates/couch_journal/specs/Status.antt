@@ -8,7 +8,7 @@ use Rattle.journal_responses.specs.declared.said.Said.TheVariants.{Other}
 use Rattle.couch_journal.specs.declared.options.NoTask.{NoTask}
 use Rattle.couch_journal.specs.declared.options.NoTask.TheVariants.{Words, Unknown, Memory}
 use Rattle.couch_journal.specs.declared.ended.Outcome.{Outcome}
-use Rattle.couch_journal.specs.declared.ended.Outcome.TheVariants.{Damaged, Differs, Done, Missing, Said, Wrong}
+use Rattle.couch_journal.specs.declared.ended.Outcome.TheVariants.{Damaged, Differs, Done, Missing, NoSums, Said, Wrong}
 use Rattle.couch_journal.specs.declared.ended.Ended.{Ended}
 use Rattle.couch_journal.specs.declared.ended.Ended.TheVariants.{NotRun, Ran}
 
@@ -22,6 +22,13 @@ wrong_or None otherwise = otherwise
 -- and the given outcome `otherwise` if the journal is not damaged.
 abbrev pub damaged_or : Bool → ℕ → Outcome → Outcome
 damaged_or damaged lines otherwise = if damaged then Damaged lines else otherwise
+
+-- The outcome of the task `confirm`: `Missing` if no block has the given sequence (`missing`), and `Done` if a sequence is
+-- given or the complete journal is confirmed (`all`). Otherwise the outcome is `NoSums` if the journal has no checksums,
+-- or `Damaged` with the number of confirmed lines.
+abbrev pub confirm_outcome : Bool → Bool → Bool → ℕ → Outcome
+confirm_outcome missing all without lines =
+    if missing then Missing else if all then Done else if without then NoSums else Damaged lines
 
 -- The outcome of a task that reads two copies of a journal: `Differs` if the copies differ, and the given outcome
 -- `otherwise` if they do not.

@@ -1,6 +1,6 @@
 //! The outcome of a run of the program.
 ghost use Rattle.std.specs.Prelude.{◌≡◌};
-ghost use Rattle.couch_journal.specs.Status.{damaged_or, differs_or, missing_or_done, other_or_done, wrong_or};
+ghost use Rattle.couch_journal.specs.Status.{confirm_outcome, damaged_or, differs_or, missing_or_done, other_or_done, wrong_or};
 
 use crate::options::NoTask;
 use journal_responses::Said;
@@ -54,6 +54,28 @@ pub(crate) fn damaged_or(damaged: bool, lines: u64, otherwise: Outcome) -> Outco
         Outcome::Damaged(lines)
     } else {
         otherwise
+    }
+}
+
+/// Returns the outcome of the task `confirm`. The argument `not_found` says whether no block has the given sequence, and
+/// `done` whether a sequence is given or the complete journal is confirmed. The argument `without_sums` says whether the
+/// journal has no checksums, and `lines` is the number of confirmed lines.
+pub(crate) fn confirm_outcome(
+    not_found: bool,
+    done: bool,
+    without_sums: bool,
+    lines: u64,
+) -> Outcome
+    ensures { result ≡ confirm_outcome not_found done without_sums lines }
+{
+    if not_found {
+        Outcome::Missing
+    } else if done {
+        Outcome::Done
+    } else if without_sums {
+        Outcome::NoSums
+    } else {
+        Outcome::Damaged(lines)
     }
 }
 

@@ -1,15 +1,16 @@
 //! Runs the program's tasks over any reader and writer.
-ghost use Rattle.std.specs.Prelude.{◌≡◌, ◌++◌, ℕ, List, IfOk, IfErr, OnErr, OnOk, map, string_bytes};
+ghost use Rattle.std.specs.Prelude.{◌≡◌, ◌++◌, ℕ, List, IfOk, IfErr, OnErr, OnOk, is_some, map, option_map, string_bytes};
 ghost use Rattle.std.specs.Io.KnownBytes.{Appends};
 ghost use Rattle.json.specs.Value.{value_view};
 ghost use Rattle.script_engine.specs.Device.{FailsOnce};
 ghost use Rattle.journal_responses.specs.Responses.{IsOther, IsSaid};
 ghost use Rattle.journal_tasks.specs.Selecting.{choice_of};
 ghost use Rattle.couch_journal.specs.Status.{missing_or_done};
-ghost use Rattle.couch_journal.specs.Runs.{choice_in, IsNotShown, IsShown, RunsAsk, RunsCompare, RunsDiff, RunsLacking, RunsName, RunsParts, RunsReceived, RunsResponse, RunsSeal, RunsSelect, RunsStates, RunsTask, RunsWords, Shows, ShowsNothing};
+ghost use Rattle.couch_journal.specs.Runs.{choice_in, IsNotShown, IsShown, RunsAsk, RunsCompare, RunsConfirm, RunsDiff, RunsLacking, RunsName, RunsParts, RunsReceived, RunsResponse, RunsSeal, RunsSelect, RunsStates, RunsTask, RunsWords, Shows, ShowsNothing};
 
 use crate::ended::{
-    Ended, Outcome, damaged_or, differs_or, missing_or_done, other_or_done, wrong_or,
+    Ended, Outcome, confirm_outcome, damaged_or, differs_or, missing_or_done, other_or_done,
+    wrong_or,
 };
 use crate::options::{NoTask, Options, matches_of, options_of};
 use crate::tasks::{Task, task_of};
@@ -22,7 +23,7 @@ use journal_tasks::{
 use json::{Scratch, Value};
 use line_reader::{LineTask, read_all, run_task};
 use script_engine::{ScriptFault, ScriptRead, ScriptWrite, write_all};
-use std::alloc::{AllocError, Global};
+use std::alloc::Global;
 
 /// The kind of a response that a task reads completely.
 #[derive(Clone, Copy)]
@@ -202,6 +203,54 @@ fn run_seal<R: ScriptRead, W: ScriptWrite>(
     }
 }
 
+/// Returns a sequence as bytes, if one is given.
+fn bytes_of(at: Option<&str>) -> Option<&[u8]>
+    ensures { option_map (λ at. at.now) result ≡ option_map (λ at. at.now) at.entry }
+{
+    match at {
+        Some(at) => Some(at.as_bytes()),
+        None => None,
+    }
+}
+
+/// Whether a sequence is given.
+fn has_seq(at: Option<&[u8]>) -> bool
+    ensures { result ≡ is_some (option_map (λ at. at.now) at.entry) }
+{
+    match at {
+        Some(_) => true,
+        None => false,
+    }
+}
+
+/// Prints how much of a journal the journal's checksums confirm. If a sequence is given, the report ends at the last
+/// block of this sequence.
+fn run_confirmed<R: ScriptRead, W: ScriptWrite>(
+    alloc: Global,
+    at: Option<&[u8]>,
+    reader: &mut R,
+    writer: &mut W,
+) -> Result<Outcome, ScriptFault>
+    ensures { (input text : List ℕ) × Appends (R.taken reader.old) (R.taken reader.new) input
+        × Appends (W.held writer.old) (W.held writer.new) text
+        × RunsConfirm (option_map (λ at. at.now) at.entry) (R.ended reader.new) input text result }
+{
+    let given = has_seq(at);
+    match confirm_journal(alloc, at, reader, writer) {
+        Ok(task) => {
+            let sure = task.is_confirmed();
+            Ok(confirm_outcome(
+                task.is_not_found(),
+                given | sure,
+                task.is_without_sums(),
+                task.confirmed_lines(),
+            ))
+        }
+        Err(fault) => Err(fault),
+    }
+}
+
+/// Prints how much of a journal the journal's checksums confirm.
 fn run_confirm<R: ScriptRead, W: ScriptWrite>(
     alloc: Global,
     at: Option<&str>,
@@ -209,22 +258,10 @@ fn run_confirm<R: ScriptRead, W: ScriptWrite>(
     writer: &mut W,
 ) -> Result<Outcome, ScriptFault>
     ensures { (input text : List ℕ) × Appends (R.taken reader.old) (R.taken reader.new) input
-        × Appends (W.held writer.old) (W.held writer.new) text }
+        × Appends (W.held writer.old) (W.held writer.new) text
+        × RunsConfirm (option_map (λ at. at.now) at.entry) (R.ended reader.new) input text result }
 {
-    let at = match at {
-        Some(at) => Some(at.as_bytes()),
-        None => None,
-    };
-    let task = confirm_journal(alloc, at, reader, writer)?;
-    if task.is_not_found() {
-        Ok(Outcome::Missing)
-    } else if at.is_some() || task.is_confirmed() {
-        Ok(Outcome::Done)
-    } else if task.is_without_sums() {
-        Ok(Outcome::NoSums)
-    } else {
-        Ok(Outcome::Damaged(task.confirmed_lines()))
-    }
+    run_confirmed(alloc, bytes_of(at), reader, writer)
 }
 
 /// Prints the last state of each document of a journal. If `unverified` is true, the task ignores the journal's
@@ -249,7 +286,7 @@ fn run_states<R: ScriptRead, W: ScriptWrite>(
 }
 
 /// Returns the filter that the options of the task `select` describe.
-fn filter_of(alloc: Global, options: &Options<'_>) -> Result<Filter, AllocError>
+fn filter_of(alloc: Global, options: &Options<'_>) -> Result<Filter, ScriptFault>
     ensures { IfOk result (λ filter. (size : ℕ) → choice_of size filter ≡ choice_in size options.now) }
 {
     let id = match options.doc {
@@ -301,7 +338,7 @@ fn run_select<R: ScriptRead, W: ScriptWrite>(
 {
     match filter_of(alloc, options) {
         Ok(filter) => run_filtered(alloc, size, filter, reader, writer),
-        Err(_) => Err(ScriptFault::Memory),
+        Err(fault) => Err(fault),
     }
 }
 

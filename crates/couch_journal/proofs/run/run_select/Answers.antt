@@ -1,4 +1,3 @@
-use Rattle.script_engine.specs.declared.fault.ScriptFault.TheVariants.{Memory}
 use Rattle.couch_journal.specs.Runs.{choice_in}
 use Rattle.couch_journal.proofs.{select_failed, select_ran}
 use Rattle.couch_journal.proofs.run.run_select.Goals as goal
@@ -8,4 +7,4 @@ returns-in-Ok g c = select_ran (choice_in c.args.size c.args.options.now) _ _ _ 
 
 pub returns-in-Err : goal.returns-in-Err
 returns-in-Err g c =
-    select_failed (choice_in c.args.size c.args.options.now) (g.R.ScriptRead.ended c.args.reader.now) (g.R.ScriptRead.taken c.args.reader.now) (g.W.ScriptWrite.held c.args.writer.now) Memory
+    select_failed (choice_in c.args.size c.args.options.now) (g.R.ScriptRead.ended c.args.reader.now) (g.R.ScriptRead.taken c.args.reader.now) (g.W.ScriptWrite.held c.args.writer.now) c.in-Err.fault
