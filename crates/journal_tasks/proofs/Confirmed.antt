@@ -1,12 +1,12 @@
 -- The task `confirm`.
-use Rattle.proof_prelude.proofs.{Result, Ok, Err, OnOk, ◌≡◌, ◌⊎◌, ℕ, ◌+◌, ◌<◌, ◌≤◌, Bool, true, false, ◌||◌, ◌&&◌, not, nat_eq, nat_lt, if◌then◌else◌, is_none, is_some, codes, decimal, List, [], ◌∷◌, ◌++◌, length, length-append, filter, filter-append, fold, map, Option, None, Some, option_map, option_or, Vec, Global, inl, inr, refl, sym, ap, ap₂, subst, ◌∙◌, cases_Bool, cond-true, cond-false, append-nil, append_assoc, or-false, list_any, list_any-append, true≢false, false≢true, arith, lt-ltb, ltb-true, starts_with}
+use Rattle.proof_prelude.proofs.{Result, Ok, Err, OnOk, ◌≡◌, ℕ, ◌+◌, ◌<◌, Bool, true, false, ◌||◌, ◌&&◌, not, nat_eq, if◌then◌else◌, is_none, is_some, List, [], ◌∷◌, ◌++◌, length, length-append, filter, filter-append, fold, Option, None, Some, option_map, option_or, Vec, Global, inl, inr, refl, sym, ap, ap₂, subst, ◌∙◌, cases_Bool, append-nil, or-false, list_any, list_any-append, true≢false, false≢true, arith, lt-ltb, ltb-true}
 use Rattle.line_reader.specs.{joined}
-use Rattle.journal_core.specs.{IsAt, Place, TookAs, closed, held_more, is_confirmed, is_sum, next, place_after, start}
+use Rattle.journal_core.specs.{IsAt, Place, TookAs, closed, held_more, is_sum, next, place_after, start}
 use Rattle.journal_core.specs.declared.blocks.Blocks.{Blocks}
 use Rattle.journal_core.specs.declared.blocks.Took.{Took}
 use Rattle.journal_core.specs.declared.blocks.Took.TheVariants as tooks
 use Rattle.journal_core.proofs.{next_damaged, place_more}
-use Rattle.journal_tasks.specs.{ClosesBlock, EndsLine, HasConfirmed, IsConfirming, KeepsLine, confirm_text, confirms_more, docs_in, first_has_doc, found_from, found_in, found_on, is_at, is_at_given, is_doc_line, is_not_found, is_without_sums, lacks_text, lacks_view, looked, noted, noted_all, open_lacks, report, report_at, report_text, stored_report, text_or_none, texts_in}
+use Rattle.journal_tasks.specs.{ClosesBlock, EndsLine, HasConfirmed, IsConfirming, KeepsLine, confirm_text, confirms_more, docs_in, first_has_doc, found_from, found_in, found_on, is_at, is_doc_line, lacks_view, looked, noted, noted_all, open_lacks, report, report_at, report_text, stored_report, text_or_none, texts_in}
 use Rattle.journal_tasks.proofs.LacksTables.{noted_push, open_block}
 use Rattle.journal_tasks.proofs.Selected.{positive}
 use Rattle.journal_tasks.proofs.Stated.{or_none, or_shift}

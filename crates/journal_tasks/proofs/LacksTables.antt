@@ -1,5 +1,5 @@
 -- The table of `lacks` lines.
-use Rattle.proof_prelude.proofs.{◌≡◌, ℕ, ◌+◌, Bool, true, false, ◌||◌, ◌&&◌, not, if◌then◌else◌, is_some, codes, List, [], ◌∷◌, ◌++◌, length, arith, filter, filter-append, fold, drop, flat_map, map, map-append, slice_get, Option, None, Some, bytes_eq, Global, String, string_bytes, Vec, inl, inr, refl, sym, ap, ap₂, subst, ◌∙◌, cases_Bool, cond-true, cond-false, append-nil, append_assoc, or_parts, or-false, list_any, list_any-append, true≢false}
+use Rattle.proof_prelude.proofs.{◌≡◌, ℕ, ◌+◌, Bool, true, false, ◌||◌, not, if◌then◌else◌, is_some, codes, List, [], ◌∷◌, ◌++◌, length, arith, filter, filter-append, drop, map, map-append, slice_get, Option, None, Some, bytes_eq, Global, String, string_bytes, Vec, inl, inr, refl, sym, ap, ap₂, ◌∙◌, cases_Bool, cond-true, cond-false, append-nil, append_assoc, or_parts, or-false, list_any, list_any-append, true≢false}
 use Rattle.std.specs.String.{string_eq}
 use Rattle.std.proofs.lemmas.List.Sums.{fold-append}
 use Rattle.indexmap.specs.IndexMap.{insert_entry, shift_remove_entry}

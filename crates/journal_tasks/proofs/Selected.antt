@@ -1,5 +1,5 @@
 -- The task `select`.
-use Rattle.proof_prelude.proofs.{◌≡◌, ℕ, ◌+◌, ◌-◌, ◌<◌, ◌≤◌, suc, Bool, true, false, ◌||◌, ◌&&◌, not, nat_eq, nat_lt, if◌then◌else◌, is_none, codes, List, [], ◌∷◌, ◌++◌, length, length-append, drop, flat_map, map, slice_get, Option, None, Some, option_map, option_or, bytes_eq, cond, Global, String, string_bytes, inl, inr, refl, sym, ap, ap₂, subst, ◌∙◌, fun_ext, cases_Bool, cond-true, cond-false, append-nil, append_assoc, or_assoc, or-false, or_right, true≢false, list_any, lookup, list_any-append, add-one, arith, zero, eqb-true, lt-ltb, ltb-true, ltb-false, HashMap, UpdatesBy, hash_map_updates_text}
+use Rattle.proof_prelude.proofs.{◌≡◌, ℕ, ◌+◌, ◌-◌, ◌<◌, ◌≤◌, suc, Bool, true, false, ◌||◌, ◌&&◌, not, nat_eq, nat_lt, if◌then◌else◌, is_none, codes, List, [], ◌∷◌, ◌++◌, length, length-append, drop, map, slice_get, Option, None, Some, option_map, option_or, bytes_eq, cond, Global, String, string_bytes, inl, inr, refl, sym, ap, ap₂, subst, ◌∙◌, fun_ext, cases_Bool, cond-true, cond-false, append-nil, append_assoc, or_assoc, or-false, or_right, true≢false, list_any, lookup, list_any-append, arith, zero, eqb-true, lt-ltb, ltb-true, ltb-false, HashMap, UpdatesBy, hash_map_updates_text}
 use Rattle.std.specs.String.{string_eq}
 use Rattle.indexmap.specs.IndexMap.{get_by_text}
 use Rattle.indexmap.specs.IndexSet.{insert_key}
@@ -11,7 +11,7 @@ use Rattle.journal_core.specs.{IsAt, Place, first_index, is_confirmed, is_sum}
 use Rattle.journal_lines.specs.Entries.{EntryView, entry_in, state, lacks, leaf, wrong}
 use Rattle.journal_lines.specs.Leafs.{HeadView}
 use Rattle.journal_lines.specs.Lists.{texts_of}
-use Rattle.journal_tasks.specs.{Choice, HasSelected, IsClosed, IsOpening, IsReading, IsSelecting, IsStage, StateView, StatesView, choice_of, chosen, entries_of, first_copy, has_head, has_number, head_in, head_read, is_chosen, is_copy_damaged, is_copy_other, is_entry, is_head, is_number, is_number_of, lacks_chosen, lacks_number, last_number, leaf_number, lines_at, noted_number, number_at, other_hash, is_wrong_line, place_of, printed, prints, second_copy, selected_leaves, selected_of, selected_revs, selected_text, state_view, states_of, states_view, text_number, wrong_in}
+use Rattle.journal_tasks.specs.{Choice, HasSelected, IsClosed, IsOpening, IsReading, IsSelecting, IsStage, StateView, choice_of, chosen, entries_of, first_copy, has_head, has_number, head_in, head_read, is_chosen, is_copy_damaged, is_entry, is_number, is_number_of, lacks_number, last_number, leaf_number, lines_at, noted_number, number_at, other_hash, is_wrong_line, place_of, printed, prints, second_copy, selected_leaves, selected_revs, selected_text, state_view, states_of, states_view, text_number, wrong_in}
 use Rattle.journal_tasks.proofs.Lookups.{at_entry}
 use Rattle.journal_tasks.proofs.Stated.{whole_before}
 use Rattle.journal_tasks.proofs.Documents.{eq_sym, same_text}

@@ -1,10 +1,10 @@
 -- The states that are stored.
-use Rattle.proof_prelude.proofs.{◌≡◌, ℕ, ◌+◌, Bool, true, false, if◌then◌else◌, List, [], ◌∷◌, ◌++◌, drop, flat_map, map, map-append, slice_get, Option, None, Some, option_map, unwrap_or, bytes_eq, Global, String, string_bytes, inl, inr, refl, sym, ap, ap₂, ◌∙◌, cases_Bool, cond-true, cond-false, append_assoc, list_any, lookup}
+use Rattle.proof_prelude.proofs.{◌≡◌, ℕ, ◌+◌, Bool, true, false, List, [], ◌∷◌, ◌++◌, drop, map, map-append, slice_get, Option, Some, option_map, bytes_eq, Global, String, string_bytes, inl, inr, refl, sym, ap, ap₂, ◌∙◌, cases_Bool, cond-true, cond-false, append_assoc, list_any, lookup}
 use Rattle.std.specs.String.{string_eq}
 use Rattle.indexmap.specs.IndexMap.{insert_entry}
 use Rattle.journal_lines.specs.Docs.{add_rev}
 use Rattle.journal_lines.specs.Lists.{texts_of}
-use Rattle.journal_tasks.specs.{StateView, StatesView, no_state, put_at, state_at, state_line, state_lines, state_or_none, state_view, with_rev}
+use Rattle.journal_tasks.specs.{StateView, StatesView, put_at, state_at, state_line, state_lines, state_or_none, state_view, with_rev}
 use Rattle.journal_tasks.proofs.Lookups.{any_key, at_entry}
 use Rattle.journal_tasks.proofs.Stated.{put_again}
 use Rattle.journal_tasks.specs.declared.state_map.State.{State}

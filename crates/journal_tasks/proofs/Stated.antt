@@ -1,18 +1,15 @@
 -- The last states of documents, after one line more.
-use Rattle.proof_prelude.proofs.{◌≡◌, ℕ, ◌+◌, Bool, true, false, ◌||◌, not, if◌then◌else◌, List, [], ◌∷◌, ◌++◌, length, length-append, flat_map, flat_map-append, map, map-append, Option, None, Some, option_or, bytes_eq, inl, inr, refl, sym, ap, ap₂, subst, ◌∙◌, fun_ext, cases_Bool, cond-true, cond-false, append-nil, or_parts, false≢true, list_any, list_any-append, fold, arith}
+use Rattle.proof_prelude.proofs.{◌≡◌, ℕ, ◌+◌, Bool, true, false, ◌||◌, not, if◌then◌else◌, List, [], ◌∷◌, ◌++◌, flat_map, flat_map-append, map, map-append, Option, None, Some, option_or, bytes_eq, inl, inr, refl, sym, ap, ap₂, subst, ◌∙◌, fun_ext, cases_Bool, cond-true, cond-false, append-nil, or_parts, false≢true, list_any, list_any-append, fold}
 use Rattle.std.proofs.lemmas.List.Sums.{fold-append}
-use Rattle.journal_core.specs.{IsAt, Place, TookAs, held_more, is_sum, next, place_after}
-use Rattle.journal_core.specs.declared.blocks.Blocks.{Blocks}
-use Rattle.journal_core.specs.declared.blocks.Took.{Took}
-use Rattle.journal_core.specs.declared.blocks.Took.TheVariants as tooks
+use Rattle.journal_core.specs.{IsAt, Place, is_sum, next, place_after}
 use Rattle.journal_core.proofs.{next_damaged, place_more}
 use Rattle.journal_lines.specs.Docs.{add_rev}
 use Rattle.journal_lines.specs.Entries.{EntryView, entry_in, state, lacks, leaf, wrong}
 use Rattle.journal_lines.specs.Leafs.{HeadView}
 use Rattle.journal_lines.specs.Lists.{LeavesView}
-use Rattle.journal_tasks.specs.{IsCounting, IsReading, StateView, StatesView, counted_as, distinct, entries_of, head_in, head_read, is_wrong, is_wrong_entry, is_wrong_line, last_state, no_state, place_of, put_at, rev_about, state_about, state_at, state_by, state_of, stated, stated_by, stated_ids, states_of, states_view, stored_revs, value_at, with_rev}
+use Rattle.journal_tasks.specs.{IsReading, StateView, counted_as, distinct, entries_of, head_in, head_read, is_wrong, is_wrong_entry, is_wrong_line, last_state, no_state, place_of, put_at, rev_about, state_about, state_at, state_by, state_of, stated, stated_by, stated_ids, states_of, states_view, stored_revs, value_at, with_rev}
 use Rattle.journal_tasks.proofs.Counts.{count_line}
-use Rattle.journal_tasks.proofs.Documents.{Once, any_distinct, eq_sym, distinct_push, once_fold, same_text, text_same}
+use Rattle.journal_tasks.proofs.Documents.{Once, any_distinct, eq_sym, once_fold, same_text, text_same}
 use Rattle.journal_tasks.specs.declared.count.Count.{Count}
 use Rattle.journal_tasks.specs.declared.journal.Journal.{Journal}
 

@@ -6,7 +6,7 @@ use Rattle.std.specs.Option.{option_or}
 use Rattle.indexmap.specs.IndexMap.{IndexMap}
 use Rattle.line_reader.specs.Lines.{joined}
 use Rattle.journal_core.specs.Journal.{is_sum}
-use Rattle.journal_core.specs.Places.{IsAt, Place, is_confirmed, next, place_after, start}
+use Rattle.journal_core.specs.Places.{IsAt, Place, next, place_after, start}
 use Rattle.journal_core.specs.declared.blocks.Took.{Took}
 use Rattle.journal_core.specs.declared.blocks.Took.TheVariants as tooks
 use Rattle.journal_lines.specs.Entries.{EntryView, entry_in, state, lacks, leaf, wrong}

@@ -1,7 +1,6 @@
 -- Defines the last states of a journal's documents, as specified in docs/PROFILE.md, "Journals", and the task `states`.
-use Rattle.std.specs.Prelude.{◌≡◌, ℕ, Bool, true, false, ◌&&◌, not, nat_eq, if◌then◌else◌, is_none, List, [], ◌∷◌, ◌++◌, length, flat_map, map, Option, None, Some, unwrap_or, bytes_eq, codes, String, string_bytes}
+use Rattle.std.specs.Prelude.{◌≡◌, ℕ, Bool, true, false, ◌&&◌, not, nat_eq, if◌then◌else◌, is_none, List, [], ◌∷◌, length, flat_map, map, Option, None, Some, unwrap_or, bytes_eq, codes, String, string_bytes}
 use Rattle.std.specs.Global.{Global}
-use Rattle.std.specs.List.{list_any}
 use Rattle.std.specs.Option.{option_or}
 use Rattle.indexmap.specs.IndexMap.{IndexMap}
 use Rattle.journal_core.specs.Journal.{is_sum}

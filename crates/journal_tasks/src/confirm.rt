@@ -18,7 +18,8 @@ use std::alloc::{AllocError, Global};
 /// confirmed prefix lacks requested leaves of a document, the task prints the document's last `lacks` line. If the
 /// caller gives a sequence, the report ends at the last confirmed block that has this sequence.
 ///
-/// The task holds in memory one block, and the lines that the task prints.
+/// The task holds in memory one block, copies of the block's `state` lines and `lacks` lines, and the lines that the task
+/// prints.
 #[derive(Drop)]
 pub struct Confirm {
     alloc: Global,

@@ -1,4 +1,4 @@
-use Rattle.proof_prelude.proofs.{◌||◌, ap, refl, ◌∙◌}
+use Rattle.proof_prelude.proofs.{◌||◌, ap, refl}
 use Rattle.journal_tasks.proofs.{select_end}
 use Rattle.journal_tasks.proofs.select.SelectLineTask.end.Goals as goal
 
