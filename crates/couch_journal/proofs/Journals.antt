@@ -1,10 +1,9 @@
 -- The tasks that read journals.
-use Rattle.proof_prelude.proofs.{◌≡◌, ◌⊎◌, inl, inr, ℕ, Bool, true, false, ◌&&◌, ◌||◌, not, nat_eq, is_none, is_some, if◌then◌else◌, Appends, Appends-nil, List, [], ◌++◌, length, All-nil, Option, Result, Err, refl, sym, subst, ap, ap₂, ◌∙◌, append-nil}
+use Rattle.proof_prelude.proofs.{◌≡◌, ◌⊎◌, inl, inr, ℕ, Bool, true, false, ◌&&◌, ◌||◌, not, nat_eq, is_none, is_some, if◌then◌else◌, Appends, Appends-nil, List, [], length, All-nil, Option, Result, Err, refl, sym, subst, ap, ap₂, ◌∙◌, append-nil}
 use Rattle.script_engine.specs.{ScriptFault}
 use Rattle.script_engine.specs.Lines.{has_line_end}
 use Rattle.line_reader.specs.{Ended, HasPrintedPart, Kept}
 use Rattle.journal_core.specs.{IsAt, Place, is_confirmed, place_after}
-use Rattle.journal_core.specs.declared.blocks.Blocks.{Blocks}
 use Rattle.journal_tasks.specs.Confirming.{HasConfirmed, is_not_found, is_without_sums}
 use Rattle.journal_tasks.specs.declared.confirm.Confirm.{Confirm}
 use Rattle.journal_tasks.specs.Selecting.{Choice, HasSelected, first_copy, is_copy_damaged, is_copy_other, lacks_chosen, prints, second_copy, selected_text}
