@@ -1,6 +1,6 @@
 -- The bytes that went through the reader and the writer of a task.
 use Rattle.std.specs.Prelude.{IsSomeAnd}
-use Rattle.proof_prelude.proofs.{None, Some, ◌≡◌, ◌⊎◌, inl, inr, ℕ, List, [], ◌++◌, Bool, true, false, Option, Result, Ok, Err, OnOk, OnErr, IfOk, IfErr, Appends, Appends-nil, refl, sym, ap, subst, ◌∙◌}
+use Rattle.proof_prelude.proofs.{None, Some, ◌≡◌, inr, ℕ, List, [], ◌++◌, Bool, true, false, Option, Result, Ok, Err, OnOk, OnErr, IfOk, IfErr, Appends, Appends-nil, refl, sym, subst, ◌∙◌}
 use Rattle.line_reader.specs.{HasDone, HasStopped, Steps}
 use Rattle.script_engine.specs.{ScriptFault}
 use Rattle.script_engine.specs.Device.{FailsOnce}

@@ -1,5 +1,5 @@
 -- The tasks on lines.
-use Rattle.proof_prelude.proofs.{◌≡◌, ◌⊎◌, inl, inr, ℕ, List, ◌++◌, Result, Ok, Err, ◌∙◌, ap, sym}
+use Rattle.proof_prelude.proofs.{◌≡◌, inl, inr, ℕ, List, ◌++◌, Ok, Err}
 use Rattle.line_reader.specs.{Ended, HasPrinted, HasPrintedPart, Kept}
 use Rattle.script_engine.specs.{ScriptFault}
 use Rattle.couch_journal.specs.Runs.{RunsLines}

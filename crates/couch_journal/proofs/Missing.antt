@@ -1,5 +1,5 @@
 -- The outcome of the tasks that find what is missing.
-use Rattle.proof_prelude.proofs.{◌≡◌, ℕ, Bool, List, Option, None, Some, is_none, refl, sym, ap, ap₂, ◌∙◌}
+use Rattle.proof_prelude.proofs.{◌≡◌, ℕ, Bool, List, Option, None, Some, is_none, refl, ap, ap₂, ◌∙◌}
 use Rattle.journal_tasks.specs.Missing.{HasLacked, missing_in_input, wrong_diffed}
 use Rattle.journal_tasks.specs.Receiving.{HasReceived, lacks_any, wrong_received}
 use Rattle.journal_tasks.specs.declared.lacking.Lacking.{Lacking}

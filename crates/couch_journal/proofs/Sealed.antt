@@ -1,10 +1,9 @@
 -- The task `seal`.
-use Rattle.proof_prelude.proofs.{◌≡◌, ◌⊎◌, inl, inr, ℕ, suc, ◌+◌, List, [], Option, None, Some, option_map, Result, Ok, Err, Appends, refl, sym, ap, ◌∙◌, add-one}
+use Rattle.proof_prelude.proofs.{◌≡◌, inl, ℕ, suc, ◌+◌, List, [], Option, None, Some, option_map, Ok, Err, Appends, refl, sym, ap, ◌∙◌, add-one}
 use Rattle.line_reader.specs.{joined}
-use Rattle.journal_core.specs.{HasSealed, HasSealedPart, sum_line, block_hash}
+use Rattle.journal_core.specs.{HasSealed}
 use Rattle.script_engine.specs.{ScriptFault}
 use Rattle.couch_journal.specs.Runs.{RunsSeal}
-use Rattle.couch_journal.specs.declared.ended.Outcome.{Outcome}
 use Rattle.couch_journal.specs.declared.ended.Outcome.TheVariants as outcomes
 
 -- the block is sealed

@@ -1,5 +1,5 @@
 -- The program on its standard streams.
-use Rattle.proof_prelude.proofs.{◌≡◌, ◌⊎◌, inl, inr, ◌++◌, [], sym, ap, ◌∙◌, append-nil, unwrap_or, ℕ, List, Option, Some, refl, subst}
+use Rattle.proof_prelude.proofs.{◌≡◌, ◌⊎◌, inl, inr, ◌++◌, [], sym, ap, ◌∙◌, append-nil, unwrap_or, ℕ, List, Some, refl, subst}
 use Rattle.couch_journal.specs.Runs.{RunsStandard, RunsWords}
 use Rattle.couch_journal.specs.Status.{unflushed}
 use Rattle.couch_journal.specs.declared.ended.Ended.{Ended}

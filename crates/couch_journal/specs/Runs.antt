@@ -1,22 +1,26 @@
 -- This file defines the effect of running the program `couch_journal` with any reader and any writer.
-use Rattle.std.specs.Prelude.{◌≡◌, ◌⊎◌, ◌++◌, [], ℕ, List, suc, Bool, true, false, All, Option, is_none, option_map, None, Some, Result, Ok, Err}
+use Rattle.std.specs.Prelude.{◌≡◌, ◌⊎◌, ◌++◌, ◌&&◌, ◌||◌, nat_eq, is_some, [], ℕ, List, length, suc, Bool, true, false, All, Option, is_none, option_map, None, Some, Result, Ok, Err}
 use Rattle.json.specs.Json.{Json, Items}
 use Rattle.json.specs.Find.{as_array}
 use Rattle.script_engine.specs.declared.fault.ScriptFault.{ScriptFault}
 use Rattle.script_engine.specs.Lines.{has_line_end}
 use Rattle.line_reader.specs.Lines.{AreLines, joined}
 use Rattle.journal_core.specs.Journal.{is_sum}
+use Rattle.journal_core.specs.Places.{is_confirmed, place_after}
 use Rattle.journal_core.specs.Sealing.{IsSeal, IsSealedPart}
 use Rattle.journal_core.specs.Wrong.{wrong_at}
 use Rattle.journal_tasks.specs.Asking.{ask_body, asked_items}
 use Rattle.journal_tasks.specs.Comparing.{compared_text, wrong_compared}
+use Rattle.journal_tasks.specs.Confirming.{confirm_text, is_not_found, is_without_sums}
 use Rattle.journal_tasks.specs.Counting.{wrong_line}
 use Rattle.journal_tasks.specs.Diffing.{diff_text}
 use Rattle.journal_tasks.specs.Lists.{is_wrong, leaves_in}
 use Rattle.journal_tasks.specs.Missing.{missing_in_input, missing_text, wrong_diffed}
 use Rattle.journal_tasks.specs.Naming.{name_lines}
 use Rattle.journal_tasks.specs.Receiving.{lacks_any, passed_on, received_text, wrong_received}
+use Rattle.journal_tasks.specs.Selecting.{Choice, first_copy, is_copy_damaged, is_copy_other, lacks_chosen, second_copy, selected_text}
 use Rattle.journal_tasks.specs.Splitting.{complete_text, parts_text, unended_line}
+use Rattle.journal_tasks.specs.Stating.{is_damaged, place_of, states_text, wrong_in}
 use Rattle.journal_responses.specs.Infos.{info_text, is_info}
 use Rattle.journal_responses.specs.Pages.{page_in}
 use Rattle.journal_responses.specs.Refusals.{any_refused, refused_text}
@@ -32,7 +36,7 @@ use Rattle.couch_journal.specs.declared.run.Response.TheVariants.{Page, Refused,
 use Rattle.couch_journal.specs.declared.tasks.Task.{Task}
 use Rattle.couch_journal.specs.declared.tasks.Task.TheVariants as tasks
 use Rattle.couch_journal.specs.Options.{Refuses, Says}
-use Rattle.couch_journal.specs.Status.{missing_or_done, other_or_done, unflushed, wrong_or}
+use Rattle.couch_journal.specs.Status.{confirm_outcome, damaged_or, differs_or, missing_or_done, other_or_done, unflushed, wrong_or}
 use Rattle.couch_journal.specs.Tasks.{IsTaskOf, IsTaskless}
 use Rattle.couch_journal.specs.declared.options.NoTask.{NoTask}
 use Rattle.couch_journal.specs.declared.options.NoTask.TheVariants.{Words, Unknown, Memory}
@@ -166,10 +170,46 @@ RunsName word ended input text result =
     RunsLines (λ lines. name_lines word (leaves_in lines)) (λ lines rest. name_lines word (leaves_in lines))
     (λ lines rest. wrong_or (wrong_line is_wrong lines rest) outcomes.Done) ended input text result
 
+-- The effect of running the task `states`: its output is the last state of each document of the journal. If the journal
+-- is damaged, or a line of the journal is wrong, the output is empty. If `unverified` is true, the checksums of the
+-- journal are ignored.
+abbrev pub RunsStates : Bool → Type 0 → List ℕ → List ℕ → Result Outcome ScriptFault → Type 0
+RunsStates unverified ended input text result =
+    RunsLines (λ lines. []) (states_text unverified)
+    (λ lines rest. damaged_or (is_damaged unverified lines rest) (length (place_of unverified lines).confirmed)
+    (wrong_or (wrong_in lines rest) outcomes.Done)) ended input text result
+
+-- The effect of running the task `confirm`: its output is the report about the confirmed part of the journal. If a
+-- sequence `at` is given, the report is about the part up to the last block with this sequence.
+abbrev pub RunsConfirm : Option (List ℕ) → Type 0 → List ℕ → List ℕ → Result Outcome ScriptFault → Type 0
+RunsConfirm at ended input text result =
+    RunsLines (λ lines. []) (λ lines rest. confirm_text at lines)
+    (λ lines rest. confirm_outcome (is_not_found at lines) (is_some at || nat_eq (length rest) 0 && is_confirmed (place_after lines))
+    (is_without_sums lines rest) (length (place_after lines).confirmed)) ended input text result
+
+-- The arguments and options of the task `select` for a journal of `size` bytes.
+abbrev pub choice_in : ℕ → Options → Choice
+choice_in size o =
+    record { size = size; several = o.several; only = option_map (λ id. id.now) o.doc; unverified = o.unverified }
+
+-- The outcome of the task `select` for the two copies `first` and `second` of a journal.
+abbrev pub select_outcome : Choice → List (List ℕ) → List (List ℕ) → List ℕ → Outcome
+select_outcome choice first second rest =
+    damaged_or (is_copy_damaged choice first) (length (place_of choice.unverified first).confirmed)
+    (wrong_or (wrong_in first []) (differs_or (is_copy_other first second rest) (missing_or_done (lacks_chosen choice first))))
+
+-- The effect of running the task `select` on two copies of a journal. For each leaf in the last state of a selected
+-- document, the output has the last line of the journal that has this leaf. If the first copy is damaged, or one of its
+-- lines is wrong, the output is empty.
+abbrev pub RunsSelect : Choice → Type 0 → List ℕ → List ℕ → Result Outcome ScriptFault → Type 0
+RunsSelect choice ended input text result =
+    RunsLines (selected_text choice) (λ lines rest. selected_text choice lines)
+    (λ lines rest. select_outcome choice (first_copy choice.size lines) (second_copy choice.size lines) rest) ended input text result
+
 -- ---- the tasks
 
--- How the output and the result of a task depend on the task's input. For a task other than `Page`, `Refused`, `Info`,
--- `Seal`, `Ask` and `Received`, every output and every result is allowed.
+-- How the output and the result of a task depend on the task's input. For the task `Conflicts`,
+-- every output and every result is allowed.
 abbrev pub RunsTask : Task → Options → Type 0 → List ℕ → List ℕ → Result Outcome ScriptFault → Type 0
 RunsTask (tasks.Page several) o ended input text result = RunsResponse (Page several) ended input text result
 RunsTask tasks.Refused o ended input text result = RunsResponse Refused ended input text result
@@ -182,6 +222,9 @@ RunsTask tasks.Lacking o ended input text result = RunsLacking ended input text 
 RunsTask (tasks.Compare documents) o ended input text result = RunsCompare documents ended input text result
 RunsTask (tasks.Parts bytes lines) o ended input text result = RunsParts (bytes, lines) ended input text result
 RunsTask (tasks.Name word) o ended input text result = RunsName word.now ended input text result
+RunsTask (tasks.States unverified) o ended input text result = RunsStates unverified ended input text result
+RunsTask (tasks.Select size) o ended input text result = RunsSelect (choice_in size o) ended input text result
+RunsTask (tasks.Confirm at) o ended input text result = RunsConfirm (option_map (λ s. s.now) at) ended input text result
 RunsTask other o ended input text result = Unit {0}
 
 -- ---- the program

@@ -1,5 +1,5 @@
 -- Defines the outcome of a task, and the exit status of the program `couch_journal`.
-use Rattle.std.specs.Prelude.{ℕ, Bool, true, false, Option, None, Some, Result, Ok, Err}
+use Rattle.std.specs.Prelude.{ℕ, Bool, true, false, if◌then◌else◌, Option, None, Some, Result, Ok, Err}
 use Rattle.clap.specs.Words.{kind_of}
 use Rattle.cli_common.specs.Status.{kind_status}
 use Rattle.script_engine.specs.declared.fault.ScriptFault.{ScriptFault}
@@ -8,7 +8,7 @@ use Rattle.journal_responses.specs.declared.said.Said.TheVariants.{Other}
 use Rattle.couch_journal.specs.declared.options.NoTask.{NoTask}
 use Rattle.couch_journal.specs.declared.options.NoTask.TheVariants.{Words, Unknown, Memory}
 use Rattle.couch_journal.specs.declared.ended.Outcome.{Outcome}
-use Rattle.couch_journal.specs.declared.ended.Outcome.TheVariants.{Done, Missing, Said, Wrong}
+use Rattle.couch_journal.specs.declared.ended.Outcome.TheVariants.{Damaged, Differs, Done, Missing, NoSums, Said, Wrong}
 use Rattle.couch_journal.specs.declared.ended.Ended.{Ended}
 use Rattle.couch_journal.specs.declared.ended.Ended.TheVariants.{NotRun, Ran}
 
@@ -17,6 +17,23 @@ use Rattle.couch_journal.specs.declared.ended.Ended.TheVariants.{NotRun, Ran}
 abbrev pub wrong_or : Option ℕ → Outcome → Outcome
 wrong_or (Some line) otherwise = Wrong line
 wrong_or None otherwise = otherwise
+
+-- The outcome of a task that reads a journal: `Damaged` with the number of confirmed lines if the journal is damaged,
+-- and the given outcome `otherwise` if the journal is not damaged.
+abbrev pub damaged_or : Bool → ℕ → Outcome → Outcome
+damaged_or damaged lines otherwise = if damaged then Damaged lines else otherwise
+
+-- The outcome of the task `confirm`: `Missing` if no block has the given sequence (`missing`), and `Done` if a sequence is
+-- given or the complete journal is confirmed (`all`). Otherwise the outcome is `NoSums` if the journal has no checksums,
+-- or `Damaged` with the number of confirmed lines.
+abbrev pub confirm_outcome : Bool → Bool → Bool → ℕ → Outcome
+confirm_outcome missing all without lines =
+    if missing then Missing else if all then Done else if without then NoSums else Damaged lines
+
+-- The outcome of a task that reads two copies of a journal: `Differs` if the copies differ, and the given outcome
+-- `otherwise` if they do not.
+abbrev pub differs_or : Bool → Outcome → Outcome
+differs_or differs otherwise = if differs then Differs else otherwise
 
 -- The outcome of a task is `Missing` if the task found that something is missing, and otherwise `Done`.
 abbrev pub missing_or_done : Bool → Outcome

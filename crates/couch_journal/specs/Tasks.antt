@@ -1,5 +1,5 @@
 -- Defines which task a command line of `couch_journal` names.
-use Rattle.std.specs.Prelude.{◌≡◌, ◌^◌, ◌<◌, ◌⊎◌, ℕ, ◌&&◌, ◌||◌, not, List, Bool, true, false, if◌then◌else◌, Option, Some, None, option_map, is_some, codes}
+use Rattle.std.specs.Prelude.{◌≡◌, ◌^◌, ◌<◌, ◌⊎◌, ℕ, ◌&&◌, ◌||◌, not, List, Bool, true, false, if◌then◌else◌, Option, Some, None, is_some, codes}
 use Rattle.std.specs.Borrow.{Bor}
 use Rattle.std.specs.Str.Parse.{without_leading_plus, IsNumeral, digits_value}
 use Rattle.couch_journal.specs.declared.options.Options.{Options}

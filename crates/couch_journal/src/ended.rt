@@ -1,6 +1,6 @@
 //! The outcome of a run of the program.
 ghost use Rattle.std.specs.Prelude.{◌≡◌};
-ghost use Rattle.couch_journal.specs.Status.{missing_or_done, other_or_done, wrong_or};
+ghost use Rattle.couch_journal.specs.Status.{confirm_outcome, damaged_or, differs_or, missing_or_done, other_or_done, wrong_or};
 
 use crate::options::NoTask;
 use journal_responses::Said;
@@ -43,6 +43,48 @@ pub(crate) fn wrong_or(wrong: Option<u64>, otherwise: Outcome) -> Outcome
         Some(line) => Outcome::Wrong(line),
         None => otherwise,
     }
+}
+
+/// Returns the outcome of a task that reads a journal with `lines` confirmed lines. If the journal is not damaged, the
+/// outcome is `otherwise`.
+pub(crate) fn damaged_or(damaged: bool, lines: u64, otherwise: Outcome) -> Outcome
+    ensures { result ≡ damaged_or damaged lines otherwise }
+{
+    if damaged {
+        Outcome::Damaged(lines)
+    } else {
+        otherwise
+    }
+}
+
+/// Returns the outcome of the task `confirm`. The argument `not_found` says whether no block has the given sequence, and
+/// `done` whether a sequence is given or the complete journal is confirmed. The argument `without_sums` says whether the
+/// journal has no checksums, and `lines` is the number of confirmed lines.
+pub(crate) fn confirm_outcome(
+    not_found: bool,
+    done: bool,
+    without_sums: bool,
+    lines: u64,
+) -> Outcome
+    ensures { result ≡ confirm_outcome not_found done without_sums lines }
+{
+    if not_found {
+        Outcome::Missing
+    } else if done {
+        Outcome::Done
+    } else if without_sums {
+        Outcome::NoSums
+    } else {
+        Outcome::Damaged(lines)
+    }
+}
+
+/// Returns the outcome of a task that reads two copies of a journal: `Differs` if the copies differ, and otherwise
+/// `otherwise`.
+pub(crate) fn differs_or(differs: bool, otherwise: Outcome) -> Outcome
+    ensures { result ≡ differs_or differs otherwise }
+{
+    if differs { Outcome::Differs } else { otherwise }
 }
 
 /// Returns the outcome `Missing` if `missing` is true, and otherwise `Done`.

@@ -1,25 +1,29 @@
 //! Runs the program's tasks over any reader and writer.
-ghost use Rattle.std.specs.Prelude.{◌≡◌, ◌++◌, ℕ, List, IfOk, IfErr, OnErr, OnOk, map, string_bytes};
+ghost use Rattle.std.specs.Prelude.{◌≡◌, ◌++◌, ℕ, List, IfOk, IfErr, OnErr, OnOk, is_some, map, option_map, string_bytes};
 ghost use Rattle.std.specs.Io.KnownBytes.{Appends};
 ghost use Rattle.json.specs.Value.{value_view};
 ghost use Rattle.script_engine.specs.Device.{FailsOnce};
 ghost use Rattle.journal_responses.specs.Responses.{IsOther, IsSaid};
+ghost use Rattle.journal_tasks.specs.Selecting.{choice_of};
 ghost use Rattle.couch_journal.specs.Status.{missing_or_done};
-ghost use Rattle.couch_journal.specs.Runs.{IsNotShown, IsShown, RunsAsk, RunsCompare, RunsDiff, RunsLacking, RunsName, RunsParts, RunsReceived, RunsResponse, RunsSeal, RunsTask, RunsWords, Shows, ShowsNothing};
+ghost use Rattle.couch_journal.specs.Runs.{choice_in, IsNotShown, IsShown, RunsAsk, RunsCompare, RunsConfirm, RunsDiff, RunsLacking, RunsName, RunsParts, RunsReceived, RunsResponse, RunsSeal, RunsSelect, RunsStates, RunsTask, RunsWords, Shows, ShowsNothing};
 
-use crate::ended::{Ended, Outcome, missing_or_done, other_or_done, wrong_or};
+use crate::ended::{
+    Ended, Outcome, confirm_outcome, damaged_or, differs_or, missing_or_done, other_or_done,
+    wrong_or,
+};
 use crate::options::{NoTask, Options, matches_of, options_of};
 use crate::tasks::{Task, task_of};
 use journal_core::seal_block;
 use journal_responses::{Said, info_of, page_of, read_said, refused_of};
 use journal_tasks::{
-    Conflicts, Filter, Select, States, ask_leaves, compare_lists, confirm_journal, diff_leaves,
-    lacking_leaves, name_leaves, receive_leaves, split_lines,
+    Conflicts, Filter, ask_leaves, compare_lists, confirm_journal, diff_leaves, lacking_leaves,
+    last_states, name_leaves, receive_leaves, select_lines, split_lines,
 };
 use json::{Scratch, Value};
 use line_reader::{LineTask, read_all, run_task};
 use script_engine::{ScriptFault, ScriptRead, ScriptWrite, write_all};
-use std::alloc::{AllocError, Global};
+use std::alloc::Global;
 
 /// The kind of a response that a task reads completely.
 #[derive(Clone, Copy)]
@@ -199,6 +203,54 @@ fn run_seal<R: ScriptRead, W: ScriptWrite>(
     }
 }
 
+/// Returns a sequence as bytes, if one is given.
+fn bytes_of(at: Option<&str>) -> Option<&[u8]>
+    ensures { option_map (λ at. at.now) result ≡ option_map (λ at. at.now) at.entry }
+{
+    match at {
+        Some(at) => Some(at.as_bytes()),
+        None => None,
+    }
+}
+
+/// Whether a sequence is given.
+fn has_seq(at: Option<&[u8]>) -> bool
+    ensures { result ≡ is_some (option_map (λ at. at.now) at.entry) }
+{
+    match at {
+        Some(_) => true,
+        None => false,
+    }
+}
+
+/// Prints how much of a journal the journal's checksums confirm. If a sequence is given, the report ends at the last
+/// block of this sequence.
+fn run_confirmed<R: ScriptRead, W: ScriptWrite>(
+    alloc: Global,
+    at: Option<&[u8]>,
+    reader: &mut R,
+    writer: &mut W,
+) -> Result<Outcome, ScriptFault>
+    ensures { (input text : List ℕ) × Appends (R.taken reader.old) (R.taken reader.new) input
+        × Appends (W.held writer.old) (W.held writer.new) text
+        × RunsConfirm (option_map (λ at. at.now) at.entry) (R.ended reader.new) input text result }
+{
+    let given = has_seq(at);
+    match confirm_journal(alloc, at, reader, writer) {
+        Ok(task) => {
+            let sure = task.is_confirmed();
+            Ok(confirm_outcome(
+                task.is_not_found(),
+                given | sure,
+                task.is_without_sums(),
+                task.confirmed_lines(),
+            ))
+        }
+        Err(fault) => Err(fault),
+    }
+}
+
+/// Prints how much of a journal the journal's checksums confirm.
 fn run_confirm<R: ScriptRead, W: ScriptWrite>(
     alloc: Global,
     at: Option<&str>,
@@ -206,25 +258,14 @@ fn run_confirm<R: ScriptRead, W: ScriptWrite>(
     writer: &mut W,
 ) -> Result<Outcome, ScriptFault>
     ensures { (input text : List ℕ) × Appends (R.taken reader.old) (R.taken reader.new) input
-        × Appends (W.held writer.old) (W.held writer.new) text }
+        × Appends (W.held writer.old) (W.held writer.new) text
+        × RunsConfirm (option_map (λ at. at.now) at.entry) (R.ended reader.new) input text result }
 {
-    let at = match at {
-        Some(at) => Some(at.as_bytes()),
-        None => None,
-    };
-    let task = confirm_journal(alloc, at, reader, writer)?;
-    if task.is_not_found() {
-        Ok(Outcome::Missing)
-    } else if at.is_some() || task.is_confirmed() {
-        Ok(Outcome::Done)
-    } else if task.is_without_sums() {
-        Ok(Outcome::NoSums)
-    } else {
-        Ok(Outcome::Damaged(task.confirmed_lines()))
-    }
+    run_confirmed(alloc, bytes_of(at), reader, writer)
 }
 
-#[tactic(auto, using(crate::proofs::Bytes::nothing_passed))]
+/// Prints the last state of each document of a journal. If `unverified` is true, the task ignores the journal's
+/// checksums.
 fn run_states<R: ScriptRead, W: ScriptWrite>(
     alloc: Global,
     unverified: bool,
@@ -232,18 +273,22 @@ fn run_states<R: ScriptRead, W: ScriptWrite>(
     writer: &mut W,
 ) -> Result<Outcome, ScriptFault>
     ensures { (input text : List ℕ) × Appends (R.taken reader.old) (R.taken reader.new) input
-        × Appends (W.held writer.old) (W.held writer.new) text }
+        × Appends (W.held writer.old) (W.held writer.new) text
+        × RunsStates unverified (R.ended reader.new) input text result }
 {
-    let mut task = States::new(alloc, unverified)?;
-    run_lines(alloc, &mut task, reader, writer)?;
-    if task.is_damaged() {
-        return Ok(Outcome::Damaged(task.confirmed_lines()));
+    match last_states(alloc, unverified, reader, writer) {
+        Ok(task) => {
+            let otherwise = wrong_or(task.wrong(), Outcome::Done);
+            Ok(damaged_or(task.is_damaged(), task.confirmed_lines(), otherwise))
+        }
+        Err(fault) => Err(fault),
     }
-    Ok(wrong_or(task.wrong(), Outcome::Done))
 }
 
 /// Returns the filter that the options of the task `select` describe.
-fn filter_of(alloc: Global, options: &Options<'_>) -> Result<Filter, AllocError> {
+fn filter_of(alloc: Global, options: &Options<'_>) -> Result<Filter, ScriptFault>
+    ensures { IfOk result (λ filter. (size : ℕ) → choice_of size filter ≡ choice_in size options.now) }
+{
     let id = match options.doc {
         Some(id) => Some(String::from_str(alloc, id)?),
         None => None,
@@ -255,7 +300,31 @@ fn filter_of(alloc: Global, options: &Options<'_>) -> Result<Filter, AllocError>
     })
 }
 
-#[tactic(auto, using(crate::proofs::Bytes::nothing_passed))]
+/// Reads two copies of a journal of `size` bytes, and prints the lines with the leaves in the last states of the selected
+/// documents.
+fn run_filtered<R: ScriptRead, W: ScriptWrite>(
+    alloc: Global,
+    size: u64,
+    filter: Filter,
+    reader: &mut R,
+    writer: &mut W,
+) -> Result<Outcome, ScriptFault>
+    ensures { (input text : List ℕ) × Appends (R.taken reader.old) (R.taken reader.new) input
+        × Appends (W.held writer.old) (W.held writer.new) text
+        × RunsSelect (choice_of size filter) (R.ended reader.new) input text result }
+{
+    match select_lines(alloc, size, filter, reader, writer) {
+        Ok(task) => {
+            let found = differs_or(task.differs(), missing_or_done(task.lacks()));
+            let otherwise = wrong_or(task.wrong(), found);
+            Ok(damaged_or(task.is_damaged(), task.confirmed_lines(), otherwise))
+        }
+        Err(fault) => Err(fault),
+    }
+}
+
+/// Reads two copies of a journal of `size` bytes, and prints the lines with the leaves in the last states of the
+/// documents that the options select.
 fn run_select<R: ScriptRead, W: ScriptWrite>(
     alloc: Global,
     size: u64,
@@ -264,18 +333,13 @@ fn run_select<R: ScriptRead, W: ScriptWrite>(
     writer: &mut W,
 ) -> Result<Outcome, ScriptFault>
     ensures { (input text : List ℕ) × Appends (R.taken reader.old) (R.taken reader.new) input
-        × Appends (W.held writer.old) (W.held writer.new) text }
+        × Appends (W.held writer.old) (W.held writer.new) text
+        × RunsSelect (choice_in size options.now) (R.ended reader.new) input text result }
 {
-    let filter = filter_of(alloc, options)?;
-    let mut task = Select::new(alloc, size, filter)?;
-    run_lines(alloc, &mut task, reader, writer)?;
-    if task.is_damaged() {
-        return Ok(Outcome::Damaged(task.confirmed_lines()));
+    match filter_of(alloc, options) {
+        Ok(filter) => run_filtered(alloc, size, filter, reader, writer),
+        Err(fault) => Err(fault),
     }
-    if task.differs() {
-        return Ok(Outcome::Differs);
-    }
-    Ok(wrong_or(task.wrong(), missing_or_done(task.lacks())))
 }
 
 /// Reads the requested leaves and the received documents. Prints the requested documents and says which leaves were

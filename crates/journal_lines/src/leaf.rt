@@ -1,5 +1,5 @@
 //! Parses the lines that have a document.
-ghost use Rattle.std.specs.Prelude.{◌≡◌, IfOk, codes, option_and_then, option_map, string_bytes};
+ghost use Rattle.std.specs.Prelude.{◌≡◌, ◌-◌, IfOk, codes, option_and_then, option_map, string_bytes};
 ghost use Rattle.json.specs.Find.{get};
 ghost use Rattle.json.specs.Value.{value_view};
 ghost use Rattle.journal_lines.specs.Lists.{texts_of};
@@ -55,8 +55,10 @@ fn is_in(alloc: Global, rev: &str, start: u64, names: &[String]) -> Result<bool,
 }
 
 impl Leaf {
-    /// Returns the generation of the ancestor at the given index.
-    pub fn generation(&self, index: usize) -> u64 {
+    /// Returns the generation of the ancestry's revision at the given index. The newest revision has index 0.
+    pub fn generation(&self, index: usize) -> u64
+        ensures { result ≡ self.now.start - index }
+    {
         self.start.saturating_sub(index as u64)
     }
 

@@ -25,7 +25,7 @@ eq_sym a b =
 
 -- ---- the distinct items of a list
 
-distinct_push : (xs : List (List ℕ)) (x : List ℕ) → distinct (xs ++ x ∷ []) ≡ add_rev (distinct xs) x
+pub distinct_push : (xs : List (List ℕ)) (x : List ℕ) → distinct (xs ++ x ∷ []) ≡ add_rev (distinct xs) x
 distinct_push xs x = fold-append add_rev [] xs (x ∷ [])
 
 any_at : (xs : List (List ℕ)) (a b : List ℕ) → bytes_eq a b ≡ true → list_any (bytes_eq b) xs ≡ true → list_any (bytes_eq a) xs ≡ true
@@ -53,7 +53,7 @@ any_fold before (x ∷ xs) y =
 pub any_distinct : (xs : List (List ℕ)) (y : List ℕ) → list_any (bytes_eq y) (distinct xs) ≡ list_any (bytes_eq y) xs
 any_distinct xs y = any_fold [] xs y
 
-abbrev Once : List (List ℕ) → Type 0
+abbrev pub Once : List (List ℕ) → Type 0
 Once [] = Unit {0}
 Once (x ∷ xs) = (list_any (bytes_eq x) xs ≡ false) × Once xs
 
@@ -70,7 +70,7 @@ once_added xs x o =
       | inr miss ↦ subst Once (sym (cond-false (list_any (bytes_eq x) xs) xs (xs ++ x ∷ []) miss)) (once_push xs x o miss)
     ]
 
-once_fold : (before xs : List (List ℕ)) → Once before → Once (fold add_rev before xs)
+pub once_fold : (before xs : List (List ℕ)) → Once before → Once (fold add_rev before xs)
 once_fold before [] o = o
 once_fold before (x ∷ xs) o = once_fold (add_rev before x) xs (once_added before x o)
 

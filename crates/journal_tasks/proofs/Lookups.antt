@@ -15,7 +15,7 @@ Entries S = List (String Global × IndexSet (String Global) S)
 -- ---- one entry of a map
 
 -- an entry, and the entries after it
-at_entry : {A : Type 0} (es : List A) (i : ℕ) (e : A) → slice_get es i ≡ Some e → drop i es ≡ e ∷ drop (i + 1) es
+pub at_entry : {A : Type 0} (es : List A) (i : ℕ) (e : A) → slice_get es i ≡ Some e → drop i es ≡ e ∷ drop (i + 1) es
 at_entry es i e h = drop-cons es i e (slice_get_within es i e h) ∙ ap (λ y. y ∷ drop (suc i) es) (get_or_from_slice_get es i e e h) ∙ ap (λ n. e ∷ drop n es) (sym (add-one i))
 
 -- a document more is written
@@ -47,7 +47,7 @@ pub revs_found : {S : Type 0} (es : Entries S) (id : List ℕ) (o : Option (Bor 
     → option_map (λ (r : Bor (IndexSet (String Global) S)). texts_of r.now.keys) o ≡ revs_at (map doc_view es) id
 revs_found {S} es id o e = copied o ∙ ap (option_map (λ (s : IndexSet (String Global) S). texts_of s.keys)) e ∙ found es id
 
-any_key : (ks : List (String Global)) (rev : List ℕ) → list_any (λ (k : String Global). bytes_eq rev (string_bytes k)) ks ≡ list_any (bytes_eq rev) (texts_of ks)
+pub any_key : (ks : List (String Global)) (rev : List ℕ) → list_any (λ (k : String Global). bytes_eq rev (string_bytes k)) ks ≡ list_any (bytes_eq rev) (texts_of ks)
 any_key [] rev = refl
 any_key (k ∷ ks) rev = ap (λ b. bytes_eq rev (string_bytes k) || b) (any_key ks rev)
 

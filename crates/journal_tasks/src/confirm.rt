@@ -1,8 +1,13 @@
 //! The task that finds out which part of a journal the journal's checksums confirm.
-ghost use Rattle.std.specs.Prelude.{ℕ, List, OnOk, ⊤};
+ghost use Rattle.std.specs.Prelude.{◌≡◌, ◌⊎◌, ◌++◌, ◌∷◌, ◌&&◌, [], ℕ, List, IfOk, OnErr, OnOk, Some, codes, decimal, is_none, is_some, length, not, option_map};
 ghost use Rattle.std.specs.Io.KnownBytes.{Appends};
+ghost use Rattle.line_reader.specs.Tasks.{HasPrinted, HasPrintedPart};
+ghost use Rattle.journal_core.specs.Places.{IsAt, Place, is_confirmed};
+ghost use Rattle.journal_tasks.specs.Arguments.{EndsFor, StepsFor};
+ghost use Rattle.journal_tasks.specs.Confirming.{ClosesBlock, EndsLine, HasConfirmed, IsConfirming, KeepsLine, docs_in, is_at, is_at_given, is_doc_line, is_rest, looked, stored_report, with_found};
 
-use crate::lacks::Lacks;
+use crate::journal::is_sum;
+use crate::lacks::{Lacks, is_told};
 use itoa::Buffer;
 use journal_core::{Blocks, Took, added};
 use line_reader::{LineTask, run_task};
@@ -13,7 +18,8 @@ use std::alloc::{AllocError, Global};
 /// confirmed prefix lacks requested leaves of a document, the task prints the document's last `lacks` line. If the
 /// caller gives a sequence, the report ends at the last confirmed block that has this sequence.
 ///
-/// The task holds in memory one block, and the lines that the task prints.
+/// The task holds in memory one block, copies of the block's `state` lines and `lacks` lines, and the lines that the task
+/// prints.
 #[derive(Drop)]
 pub struct Confirm {
     alloc: Global,
@@ -22,6 +28,8 @@ pub struct Confirm {
     leaves: u64,
     /// The number of documents in the block that the task is reading.
     held: u64,
+    /// The `state` lines and the `lacks` lines of the block that the task is reading.
+    pending: Vec<Vec<u8>>,
     lacks: Lacks,
     at: Option<Vec<u8>>,
     found: Option<Vec<u8>>,
@@ -32,42 +40,70 @@ pub struct Confirm {
     first_leaf: bool,
 }
 
-/// Whether the sequence `seq` equals `at`, or begins with `at` followed by `-`.
-fn is_at(seq: &[u8], at: &[u8]) -> bool {
-    let Some(rest) = seq.strip_prefix(at) else {
-        return false;
-    };
-    rest.is_empty() || rest.starts_with(b"-".as_slice())
-}
-
-/// Returns 1 if a line has a document, otherwise 0.
-fn leaf_of(line: &[u8]) -> u64 {
-    match line {
-        [b'{', ..] => 1,
-        _ => 0,
+/// Whether the bytes `rest` are empty or begin with `-`.
+fn is_rest(rest: Option<&[u8]>) -> bool
+    ensures { result ≡ is_rest (option_map (λ rest. rest.now) rest.entry) }
+{
+    match rest {
+        Some(rest) => rest.is_empty() || rest.starts_with(b"-".as_slice()),
+        None => false,
     }
 }
 
-fn push_number(text: &mut Vec<u8>, number: u64) -> Result<(), AllocError> {
+/// Whether the sequence `seq` equals `at`, or begins with `at` followed by `-`.
+fn is_at(seq: &[u8], at: &[u8]) -> bool
+    ensures { result ≡ is_at seq.now at.now }
+{
+    is_rest(seq.strip_prefix(at))
+}
+
+/// Whether a line has a document.
+fn is_doc(line: &[u8]) -> bool
+    ensures { result ≡ is_doc_line line.now }
+{
+    line.starts_with(b"{".as_slice())
+}
+
+/// Returns 1 if a line has a document, otherwise 0.
+fn leaf_of(line: &[u8]) -> u64
+    ensures { result ≡ docs_in (line.now ∷ []) }
+{
+    if is_doc(line) { 1 } else { 0 }
+}
+
+/// Appends a number and a blank.
+fn push_number(text: &mut Vec<u8>, number: u64) -> Result<(), AllocError>
+    ensures { OnOk result (text.new.items ≡ text.old.items ++ (decimal number ++ codes " ")) }
+{
     let mut digits = Buffer::new();
     text.extend_from_slice(digits.format(number).as_bytes())?;
     text.push(b' ')?;
     Ok(())
 }
 
+/// Copies a sequence, if one is given.
+fn copied(alloc: Global, at: Option<&[u8]>) -> Result<Option<Vec<u8>>, AllocError>
+    ensures { IfOk result (λ copy. option_map (λ at. at.items) copy ≡ option_map (λ at. at.now) at.entry) }
+{
+    match at {
+        Some(at) => Ok(Some(Vec::from_slice(alloc, at)?)),
+        None => Ok(None),
+    }
+}
+
 impl Confirm {
     /// Creates the task.
-    pub fn new(alloc: Global, at: Option<&[u8]>) -> Result<Confirm, AllocError> {
-        let at = match at {
-            Some(at) => Some(Vec::from_slice(alloc, at)?),
-            None => None,
-        };
+    pub fn new(alloc: Global, at: Option<&[u8]>) -> Result<Confirm, AllocError>
+        ensures { IfOk result (IsConfirming (option_map (λ at. at.now) at.entry) [] []) }
+    {
+        let at = copied(alloc, at)?;
         let blocks = Blocks::new(alloc)?;
         Ok(Confirm {
             alloc,
             blocks,
             leaves: 0,
             held: 0,
+            pending: Vec::new(alloc),
             lacks: Lacks::new(alloc),
             at,
             found: None,
@@ -79,27 +115,39 @@ impl Confirm {
     }
 
     /// Returns the number of confirmed lines of the journal.
-    pub fn confirmed_lines(&self) -> u64 {
+    pub fn confirmed_lines(&self) -> u64
+        ensures { (place : Place) → IsAt self.now.blocks place → result ≡ length place.confirmed }
+    {
         self.blocks.lines()
     }
 
     /// Whether the checksums confirm the complete input.
-    pub fn is_confirmed(&self) -> bool {
+    pub fn is_confirmed(&self) -> bool
+        ensures { (place : Place) → IsAt self.now.blocks place
+            → result ≡ (not self.now.cut && is_confirmed place) }
+    {
         !self.cut && self.blocks.is_confirmed()
     }
 
     /// Whether two conditions hold: the first input line has a document, and no input line has a checksum.
-    pub fn is_without_sums(&self) -> bool {
+    pub fn is_without_sums(&self) -> bool
+        ensures { result ≡ (self.now.first_leaf && not self.now.sums) }
+    {
         self.first_leaf && !self.sums
     }
 
     /// Whether the caller gave a sequence that no confirmed block has.
-    pub fn is_not_found(&self) -> bool {
+    pub fn is_not_found(&self) -> bool
+        ensures { result ≡ (is_some self.now.at && is_none self.now.found) }
+    {
         self.at.is_some() && self.found.is_none()
     }
 
     /// Returns the report about the confirmed part of the journal.
-    fn report(&self) -> Result<Vec<u8>, AllocError> {
+    fn report(&self) -> Result<Vec<u8>, AllocError>
+        ensures { IfOk result (λ text. (place : Place) → IsAt self.now.blocks place
+            → text.items ≡ stored_report self.now place) }
+    {
         let mut text = Vec::from_slice(self.alloc, b"confirmed ".as_slice())?;
         push_number(&mut text, self.blocks.bytes())?;
         push_number(&mut text, self.blocks.lines())?;
@@ -113,7 +161,10 @@ impl Confirm {
     }
 
     /// Whether the caller gave a sequence, and the last confirmed block has this sequence.
-    fn is_at_seq(&self) -> bool {
+    fn is_at_seq(&self) -> bool
+        ensures { (place : Place) → IsAt self.now.blocks place
+            → result ≡ is_at_given (option_map (λ at. at.items) self.now.at) place.seq }
+    {
         match &self.at {
             Some(at) => is_at(self.blocks.seq(), at.as_slice()),
             None => false,
@@ -121,52 +172,76 @@ impl Confirm {
     }
 
     /// Records whether the first input line has a document, and whether an input line has a checksum.
-    fn look(&mut self, line: &[u8]) {
-        if !self.begun {
-            self.first_leaf = line.starts_with(b"{".as_slice());
-            self.begun = true;
-        }
-        if line.starts_with(b"sum ".as_slice()) {
-            self.sums = true;
-        }
+    fn look(&mut self, line: &[u8])
+        ensures { self.new ≡ looked line.now self.old }
+    {
+        let first = is_doc(line);
+        self.first_leaf = if self.begun { self.first_leaf } else { first };
+        self.begun = true;
+        self.sums = self.sums | is_sum(line);
     }
 
-    /// Records the result of reading a line of the journal. The argument `held` is the number of documents in the
-    /// current block, including this line.
-    fn settle(&mut self, took: Took, held: u64) -> Result<(), AllocError> {
-        match took {
-            Took::Held => {
-                self.held = held;
-                Ok(())
-            }
-            Took::Damaged => Ok(()),
-            Took::Closed(body) => self.settle_block(body.as_slice(), held),
+    /// Stores a line of the current block, which has `docs` documents with this line. Only a `state` line or a `lacks`
+    /// line is kept.
+    fn keep(&mut self, line: &[u8], docs: u64) -> Result<(), AllocError>
+        ensures { OnOk result (KeepsLine line.now docs self.old self.new) }
+    {
+        self.held = docs;
+        if is_told(line) {
+            self.pending.push(Vec::from_slice(self.alloc, line)?)?;
         }
+        Ok(())
     }
 
-    /// Records that the checksums confirm a block of the journal. The argument `held` is the number of documents in the
-    /// confirmed block.
-    fn settle_block(&mut self, body: &[u8], held: u64) -> Result<(), AllocError> {
-        self.leaves = added(self.leaves, held)?;
+    /// Records that the checksums confirm the current block of the journal.
+    fn close(&mut self) -> Result<(), AllocError>
+        ensures { OnOk result (ClosesBlock self.old self.new) }
+    {
+        self.leaves = added(self.leaves, self.held)?;
         self.held = 0;
-        self.lacks.note_all(body)?;
+        self.lacks.note_all(self.pending.as_slice())?;
+        self.pending = Vec::new(self.alloc);
         if self.is_at_seq() {
-            self.found = Some(self.report()?);
+            return self.store_report();
         }
+        Ok(())
+    }
+
+    /// Records how the journal reader took the last line.
+    fn end_line(&mut self, took: &Took) -> Result<(), AllocError>
+        ensures { OnOk result (EndsLine took.now self.old self.new) }
+    {
+        match took {
+            Took::Closed(_) => self.close(),
+            Took::Held => Ok(()),
+            Took::Damaged => Ok(()),
+        }
+    }
+
+    /// Stores the report about the confirmed part of the journal.
+    fn store_report(&mut self) -> Result<(), AllocError>
+        ensures same { OnOk result (self.new ≡ with_found self.old self.new.found) }
+        ensures found { OnOk result ((place : Place) → IsAt self.old.blocks place
+            → option_map (λ text. text.items) self.new.found ≡ Some (stored_report self.old place)) }
+    {
+        let report = self.report()?;
+        self.found = Some(report);
         Ok(())
     }
 }
 
 impl LineTask for Confirm {
-    ghost steps = { λ _ _ _ _. ⊤ };
+    ghost steps = { StepsFor IsConfirming };
 
-    ghost ends = { λ _ _ _ _. ⊤ };
+    ghost ends = { EndsFor IsConfirming HasConfirmed };
 
     fn line(&mut self, line: &[u8], _text: &mut Vec<u8>) -> Result<(), AllocError> {
         self.look(line);
-        let held = added(self.held, leaf_of(line))?;
+        let docs = added(self.held, leaf_of(line))?;
+        self.keep(line, docs)?;
         let took = self.blocks.take(line)?;
-        self.settle(took, held)
+        self.end_line(&took)?;
+        Ok(())
     }
 
     fn end(&mut self, rest: &[u8], text: &mut Vec<u8>) -> Result<(), AllocError> {
@@ -198,8 +273,13 @@ pub fn confirm_journal<R: ScriptRead, W: ScriptWrite>(
     reader: &mut R,
     writer: &mut W,
 ) -> Result<Confirm, ScriptFault>
-    ensures took { (input text : List ℕ) × Appends (R.taken reader.old) (R.taken reader.new) input
-        × Appends (W.held writer.old) (W.held writer.new) text }
+    ensures took { IfOk result (λ task. (input text : List ℕ) × Appends (R.taken reader.old) (R.taken reader.new) input
+        × Appends (W.held writer.old) (W.held writer.new) text
+        × HasPrinted (HasConfirmed (option_map (λ at. at.now) at.entry)) input text task) }
+    ensures stopped { OnErr result ((input text : List ℕ) × Appends (R.taken reader.old) (R.taken reader.new) input
+        × Appends (W.held writer.old) (W.held writer.new) text
+        × ((text ≡ []) ⊎ HasPrintedPart (IsConfirming (option_map (λ at. at.now) at.entry))
+        (HasConfirmed (option_map (λ at. at.now) at.entry)) (R.ended reader.new) input text)) }
     ensures ended { OnOk result (R.ended reader.new) }
 {
     let mut task = Confirm::new(alloc, at)?;

@@ -1,4 +1,4 @@
-use Rattle.proof_prelude.proofs.{inl, inr}
+use Rattle.proof_prelude.proofs.{inl}
 use Rattle.couch_journal.proofs.{response_read, response_refused}
 use Rattle.couch_journal.proofs.run.read_response.Goals as goal
 

@@ -18,19 +18,13 @@ pub returns-in-Ask : goal.returns-in-Ask
 returns-in-Ask g c = task_ran c.args.task.now (tasks.Ask) c.args.options.now _ _ _ _ _ c.run_ask.result c.in-Ask.is c.run_ask.ensures
 
 pub returns-in-Confirm : goal.returns-in-Confirm
-returns-in-Confirm g c =
-    let t = c.run_confirm.ensures in
-    task_ran c.args.task.now (tasks.Confirm c.in-Confirm.at) c.args.options.now _ _ _ _ _ c.run_confirm.result c.in-Confirm.is (t.0, t.1, t.2, t.3, tt)
+returns-in-Confirm g c = task_ran c.args.task.now (tasks.Confirm c.in-Confirm.at) c.args.options.now _ _ _ _ _ c.run_confirm.result c.in-Confirm.is c.run_confirm.ensures
 
 pub returns-in-States : goal.returns-in-States
-returns-in-States g c =
-    let t = c.run_states.ensures in
-    task_ran c.args.task.now (tasks.States c.in-States.unverified) c.args.options.now _ _ _ _ _ c.run_states.result c.in-States.is (t.0, t.1, t.2, t.3, tt)
+returns-in-States g c = task_ran c.args.task.now (tasks.States c.in-States.unverified) c.args.options.now _ _ _ _ _ c.run_states.result c.in-States.is c.run_states.ensures
 
 pub returns-in-Select : goal.returns-in-Select
-returns-in-Select g c =
-    let t = c.run_select.ensures in
-    task_ran c.args.task.now (tasks.Select c.in-Select.size) c.args.options.now _ _ _ _ _ c.run_select.result c.in-Select.is (t.0, t.1, t.2, t.3, tt)
+returns-in-Select g c = task_ran c.args.task.now (tasks.Select c.in-Select.size) c.args.options.now _ _ _ _ _ c.run_select.result c.in-Select.is c.run_select.ensures
 
 pub returns-in-Received : goal.returns-in-Received
 returns-in-Received g c = task_ran c.args.task.now (tasks.Received c.in-Received.only_lacks) c.args.options.now _ _ _ _ _ c.run_received.result c.in-Received.is c.run_received.ensures

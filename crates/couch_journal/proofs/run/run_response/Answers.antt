@@ -1,4 +1,4 @@
-use Rattle.proof_prelude.proofs.{[], ◌++◌, inl, refl, sym, ap, subst, ◌∙◌, Appends-nil}
+use Rattle.proof_prelude.proofs.{[], ◌++◌, inl, refl, ap, subst, ◌∙◌, Appends-nil}
 use Rattle.couch_journal.specs.Runs.{IsNotShown}
 use Rattle.couch_journal.proofs.{response_wrote}
 use Rattle.couch_journal.proofs.run.run_response.Goals as goal

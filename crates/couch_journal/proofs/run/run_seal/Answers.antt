@@ -1,6 +1,5 @@
-use Rattle.proof_prelude.proofs.{Some, None, subst, subst₂, sym}
-use Rattle.journal_core.specs.{HasSealed, HasSealedPart}
-use Rattle.couch_journal.proofs.{seal_done, seal_over, seal_wrong}
+use Rattle.proof_prelude.proofs.{subst₂}
+use Rattle.journal_core.specs.{HasSealedPart}
 use Rattle.couch_journal.proofs.run.run_seal.Goals as goal
 
 pub returns-in-Err : goal.returns-in-Err

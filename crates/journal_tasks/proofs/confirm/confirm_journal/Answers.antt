@@ -1,11 +1,10 @@
-use Rattle.proof_prelude.proofs.{[], ◌++◌, Appends-nil}
+use Rattle.proof_prelude.proofs.{inr, option_map}
+use Rattle.journal_tasks.specs.Confirming.{HasConfirmed, IsConfirming}
+use Rattle.journal_tasks.proofs.{done_for, stopped_for}
 use Rattle.journal_tasks.proofs.confirm.confirm_journal.Goals as goal
 
 pub returns-clause-took : goal.returns-clause-took
-returns-clause-took g c = let d = c.in-Ok.ensures.took in (d.input, d.text ++ d.last_text, d.gives, d.written)
+returns-clause-took g c = done_for IsConfirming HasConfirmed (option_map (λ at. at.now) c.args.at) c.in_ok-task.task c.run_task.new.task _ _ _ _ c.in-Ok.ensures.took c.in_ok-task.ensures
 
-pub returns-in-Err-clause-took : goal.returns-in-Err-clause-took
-returns-in-Err-clause-took g c = let d = c.in-Err.ensures.stopped in (d.2.input, d.2.text ++ d.2.front, d.2.gives, d.2.written)
-
-pub returns-in_err-task-clause-took : goal.returns-in_err-task-clause-took
-returns-in_err-task-clause-took g c = ([], [], Appends-nil (g.R.ScriptRead.taken c.args.reader.now), Appends-nil (g.W.ScriptWrite.held c.args.writer.now))
+pub returns-in-Err-clause-stopped : goal.returns-in-Err-clause-stopped
+returns-in-Err-clause-stopped g c = let t = stopped_for IsConfirming HasConfirmed (option_map (λ at. at.now) c.args.at) c.in_ok-task.task _ _ _ _ _ c.in-Err.ensures.stopped c.in_ok-task.ensures in (t.0, t.1, t.2, t.3, inr t.4)
