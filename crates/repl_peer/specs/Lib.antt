@@ -18,6 +18,7 @@ pub use peer.Stored.{AreCounted, IsStoredBackup, IsStoredPeer}
 pub use peer.Trusted.{IsAccounted, IsTrusted}
 pub use peer.Writing.{after_edit, after_load, load_edited, next_local}
 pub use session.LedgerIndex.{is_ledgered}
+pub use session.PackedIds.{AreEnds, ends_from, ids_from}
 pub use session.ReadCounts.{read_in, read_of, taken}
 pub use session.RepIndex.{listed}
 pub use session.SessionCalls.{begin_in, changed, in_ledgers, recorded_by, recorded_of, with_changed}

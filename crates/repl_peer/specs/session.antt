@@ -4,6 +4,7 @@ pub mod Settling
 pub mod Stored
 pub mod Windows
 pub mod Kept
+pub mod PackedIds
 pub mod SessionCalls
 pub mod Ledger
 pub mod LedgerIndex

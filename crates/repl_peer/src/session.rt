@@ -8,8 +8,9 @@ ghost use Rattle.repl_peer.specs.session.Sessions.{GivesUnlessMemory, new_sessio
 
 pub(crate) mod beginning;
 pub(crate) mod deferred_drops;
-mod ghost_leaves;
+mod ghost_rows;
 mod ledger_index;
+mod packed_ids;
 pub(crate) mod ready_window;
 pub(crate) mod refused;
 mod rep_index;

@@ -12,6 +12,7 @@ pub mod SettlingChecks
 pub mod SessionLaws
 pub mod SettlingParcels
 pub mod WindowsFollow
+pub mod PackedIds
 pub mod Changes
 pub mod SettlingKeepsLaw
 pub mod SettlingPeers

@@ -6,9 +6,9 @@ use couch_base::Window;
 use std::alloc::Global;
 use std::marker::Model;
 
-/// A window, optionally with a prebuilt copy (`DoneWindow`) that does not have the leaves of the window's rows. After
-/// the window is done, the session stores only the `DoneWindow`, unless its allocation fails. A caller can build the
-/// `DoneWindow` with `prepare` before the caller locks the peer.
+/// A window, optionally with a prebuilt copy (`DoneWindow`) that has only the ids of the window's rows. After the
+/// window is done, the session stores only the `DoneWindow`, unless the `DoneWindow` cannot be built. A caller can
+/// build the `DoneWindow` with `prepare` before the caller locks the peer.
 pub struct ReadyWindow {
     window: Window,
     done: Option<DoneWindow>,
@@ -41,8 +41,8 @@ impl ReadyWindow {
         ReadyWindow { window, done: None }
     }
 
-    /// Builds a copy of the window without the leaves of its rows (`DoneWindow`). If the allocation of the `DoneWindow`
-    /// fails, the session builds the `DoneWindow` later, when the window is done.
+    /// Builds a copy of the window with only the ids of its rows (`DoneWindow`). If the `DoneWindow` cannot be built,
+    /// the session tries again when the window is done.
     pub fn prepare(&mut self, alloc: Global)
         ensures { self.new ≡ self.old }
     {
@@ -58,9 +58,9 @@ impl ReadyWindow {
         &self.window
     }
 
-    /// Returns a copy of the window without the leaves of its rows (`DoneWindow`). The call takes the `DoneWindow` that
-    /// `prepare` has built, or builds a `DoneWindow` if `prepare` has built none. Returns `None` if the allocation
-    /// fails.
+    /// Returns a copy of the window with only the ids of its rows (`DoneWindow`). The call takes the `DoneWindow` that
+    /// `prepare` has built, or builds a `DoneWindow` if `prepare` has built none. Returns `None` if the `DoneWindow`
+    /// cannot be built.
     pub(crate) fn take_done(&mut self, alloc: Global) -> Option<DoneWindow>
         ensures same { self.new ≡ self.old }
         ensures done { IfSome result (λ done. done ≡ self.old) }

@@ -1,11 +1,12 @@
-//! How a session stores its windows in memory, with or without the leaves of their rows.
+//! How a session stores its windows in memory: complete, or with only the ids of their rows.
 ghost use Rattle.std.specs.Prelude.{◌≡◌, ◌<◌, true, length, is_some, IfOk, IfSome};
 ghost use Rattle.std.specs.List.{list_any, list_all};
 ghost use Rattle.std.specs.Str.{bytes_eq};
 ghost use Rattle.repl_peer.specs.session.Settling.{has_row};
 ghost use Rattle.repl_peer.specs.session.Windows.{windows_of, IsThinner};
 
-use crate::session::ghost_leaves::GhostLeaves;
+use crate::session::ghost_rows::GhostRows;
+use crate::session::packed_ids::PackedIds;
 use crate::session::ready_window::ReadyWindow;
 use crate::session::rows::all_have_rows;
 use couch_base::{Row, Window};
@@ -15,72 +16,40 @@ use std::marker::Model;
 
 // ---- done windows
 
-/// A row of a done window, without leaves. The row's leaves are ghost values: they exist only for contracts, and not at
-/// run time.
-#[derive(Drop)]
-pub(crate) struct DoneRow {
-    seq: u64,
-    id: DocId,
-    leaves: GhostLeaves,
-}
-
-impl Model for DoneRow {
-    ghost use Rattle.couch_base.specs.Feed.{RowValue};
-
-    ghost Value = { RowValue };
-
-    ghost view = { λ r. record { seq = r.seq; id = r.id; leaves = r.leaves.leaves } };
-}
-
-impl DoneRow {
-    /// Creates a row without leaves.
-    fn of(alloc: Global, row: &Row) -> Result<DoneRow, AllocError>
-        ensures of { IfOk result (λ r. r ≡ row.now) }
-    {
-        let id = row.id().copy(alloc)?;
-        Ok(DoneRow {
-            seq: row.seq(),
-            id,
-            leaves: GhostLeaves::of(row),
-        })
-    }
-
-    /// Returns the document's id.
-    fn id(&self) -> &DocId
-        ensures { result.now ≡ self.now.id }
-    {
-        &self.id
-    }
-}
-
-/// A done window. The leaves of a done window's rows are dropped, because later calls use only the ids of the rows.
+/// A done window. Of a done window's rows, a `DoneWindow` stores only the ids, because later calls use only the ids.
+/// The rows are a ghost value: the rows exist for contracts only, and not at run time.
 #[derive(Drop)]
 pub(crate) struct DoneWindow {
     life: u64,
     lo: u64,
     hi: u64,
-    rows: Vec<DoneRow>,
+    ids: PackedIds,
+    rows: GhostRows,
 }
 
 impl Model for DoneWindow {
+    ghost use Rattle.std.specs.Prelude.{◌≡◌, map};
     ghost use Rattle.couch_base.specs.Feed.{WindowValue};
 
     ghost Value = { WindowValue };
 
-    ghost view = { λ w. record { life = w.life; lo = w.lo; hi = w.hi; rows = w.rows.items } };
+    ghost view = { λ w. record { life = w.life; lo = w.lo; hi = w.hi; rows = w.rows.rows } };
+
+    ghost invariant = { λ w. w.ids ≡ map (λ row. row.id) w.rows.rows };
 }
 
 impl DoneWindow {
-    /// Copies a window without the leaves of the window's rows.
+    /// Copies a window with only the ids of the window's rows. Fails if `PackedIds` cannot store the ids.
     pub(crate) fn of(alloc: Global, window: &Window) -> Result<DoneWindow, AllocError>
         ensures of { IfOk result (λ w. w ≡ window.now) }
     {
-        let rows = done_rows(alloc, window.rows())?;
+        let ids = PackedIds::of(alloc, window.rows())?;
         Ok(DoneWindow {
             life: window.life(),
             lo: window.lo(),
             hi: window.hi(),
-            rows,
+            ids,
+            rows: GhostRows::of(window),
         })
     }
 
@@ -89,41 +58,24 @@ impl DoneWindow {
         ensures { result ≡ list_all (has_row self.now) docs.now }
     {
         for doc in docs {
-            if !has_done_row(&self.rows, doc.id()) {
+            if !self.has_row_of(doc.id()) {
                 return false;
             }
         }
         true
     }
-}
 
-/// Copies rows without their leaves.
-fn done_rows(alloc: Global, rows: &[Row]) -> Result<Vec<DoneRow>, AllocError>
-    ensures of { IfOk result (λ v. v.items ≡ rows.now) }
-{
-    let mut done = Vec::with_capacity(alloc, rows.len())?;
-    for row in rows {
-        let one = DoneRow::of(alloc, row)?;
-        done.push(one)?;
+    /// Whether the window has a row with a given id.
+    fn has_row_of(&self, id: &DocId) -> bool
+        ensures { result ≡ list_any (λ row. bytes_eq row.id id.now) self.now.rows }
+    {
+        self.ids.has(id)
     }
-    Ok(done)
-}
-
-/// Whether the window has a row with a given id.
-fn has_done_row(rows: &[DoneRow], id: &DocId) -> bool
-    ensures { result ≡ list_any (λ row. bytes_eq row.id id.now) rows.now }
-{
-    for row in rows {
-        if row.id() == id {
-            return true;
-        }
-    }
-    false
 }
 
 // ---- stored windows
 
-/// A window of a session. A window that is done may be stored without the leaves of its rows.
+/// A window of a session. Of the rows of a done window, a session may store only the ids.
 #[derive(Drop)]
 pub struct StoredWindow {
     kept: Kept,
@@ -134,7 +86,7 @@ pub struct StoredWindow {
 pub(crate) enum Kept {
     /// The complete window.
     Whole(ReadyWindow),
-    /// A done window whose rows have no leaves.
+    /// A done window with only the ids of its rows.
     Done(DoneWindow),
 }
 
@@ -196,7 +148,7 @@ impl StoredWindow {
         }
     }
 
-    /// Returns the rows by rising sequence. Returns `None` if the leaves of the rows were dropped.
+    /// Returns the rows by rising sequence. Returns `None` if the session stores only the ids of the rows.
     pub fn rows(&self) -> Option<&[Row]>
         ensures whole { is_some result ≡ self.now.whole }
         ensures rows { IfSome result (λ r. r.now ≡ self.now.window.rows) }
@@ -218,9 +170,9 @@ impl StoredWindow {
         }
     }
 
-    /// Drops the leaves of the window's rows, by replacing the rows with rows that have no leaves. The call allocates
-    /// the rows without leaves, unless `ReadyWindow::prepare` has already built them. If the rows without leaves cannot
-    /// be allocated, the window keeps its rows with their leaves.
+    /// Drops the window's rows, and keeps the ids of the rows. The call copies the ids to a `DoneWindow`, unless
+    /// `ReadyWindow::prepare` has already built the `DoneWindow`. If the `DoneWindow` cannot be built, the window keeps
+    /// its rows.
     pub(crate) fn let_leaves_go(&mut self, alloc: Global)
         ensures { self.new.window ≡ self.old.window }
     {
@@ -232,8 +184,8 @@ impl StoredWindow {
     }
 }
 
-/// Drops the leaves of all rows of one window, which has the index `place` in the list `windows`. If the allocation of
-/// the shortened rows (without leaves) fails, the window keeps its rows with their leaves.
+/// Drops the rows of one window, which has the index `place` in the list `windows`, and keeps the ids of the rows. If
+/// the ids cannot be copied, the window keeps its rows.
 pub(crate) fn let_leaves_go_at(windows: &mut Vec<StoredWindow>, place: usize)
     requires within { place < length windows.old.items }
     ensures windows { windows_of windows.new.items ≡ windows_of windows.old.items }

@@ -1,4 +1,4 @@
--- `of` creates a zero-size value with the leaves that its clause names.
+-- `of` creates a zero-size value with the rows that its clause names.
 use Rattle.proof_prelude.proofs.{List, [], ◌∷◌, ◌++◌, refl}
 use seplogic.Ra.Ura.{Ura}
 use mir.Syntax.{Fn}
@@ -26,12 +26,12 @@ use denote.Triple.Entry.{alive}
 use denote.Triple.Spec.{Meets, triple_of}
 use denote.Triple.Table.{entered}
 use denote.Triple.Walked.{says, Stays, stay_dropped, walk_of, ends_at, walk_Meets, Goes-dropped}
-use Rattle.repl_peer.specs.contracts.session.ghost_leaves.GhostLeaves as GhostLeaves
-use Rattle.couch_base.specs.contracts.row.Row as Row
-use Rattle.repl_peer.specs.contracts.session.ghost_leaves.GhostLeaves.of as F
-use Rattle.repl_peer.specs.contracts.session.ghost_leaves.GhostLeaves.of.Key.{name as #self}
-use Rattle.repl_peer.proofs.session.ghost_leaves.GhostLeaves.of.Statement as stated
-use Rattle.repl_peer.proofs.session.ghost_leaves.GhostLeaves.of.Code as code
+use Rattle.repl_peer.specs.contracts.session.ghost_rows.GhostRows as GhostRows
+use Rattle.couch_base.specs.contracts.window.Window as Window
+use Rattle.repl_peer.specs.contracts.session.ghost_rows.GhostRows.of as F
+use Rattle.repl_peer.specs.contracts.session.ghost_rows.GhostRows.of.Key.{name as #self}
+use Rattle.repl_peer.proofs.session.ghost_rows.GhostRows.of.Statement as stated
+use Rattle.repl_peer.proofs.session.ghost_rows.GhostRows.of.Code as code
 
 abbrev function : Fn
 function = code.function
@@ -64,7 +64,7 @@ module _ {M : Type 1} {𝓤 : Ura M} (𝓛 : Logic 𝓤) (at_mem : Memory → SP
         let a = z.0.3 in
         let vss = z.0.4 in
         let u : Val = vptr a.0.ref_ptr.0 a.0.ref_ptr.1 in
-        let made : (GhostLeaves.the_row).Denot = record { leaves = a.0.now.leaves } in
+        let made : (GhostRows.the_row).Denot = record { rows = a.0.now.rows } in
         qed 𝓛 ((raw toks ⊛ ‵ (owns (types_at ended.signature.params z.0.0) a vss)) ∷ raw ((held z.0.0 a).requires z.1) ∷ []) ∵
         keep ! (0 ∷ []) $ split ! $ move ! (1 ∷ []) $ fsplit ! $ fsplit ! $ feq_l ! (λ is. drop ! $ drop ! $
         regoal ! (λ (us : List Val). prop (WpFn 𝓤 H C Λ function (us ++ []) Post)) is refl $
@@ -78,7 +78,7 @@ module _ {M : Type 1} {𝓤 : Ura M} (𝓛 : Logic 𝓤) (at_mem : Memory → SP
 
   meets : (𝓣 : Tables 𝓤 H) → Meets 𝓛 ended.signature (WpFn 𝓤 H 𝓣.C 𝓣.Λ function) (closing 𝓛 ended held)
   meets 𝓣 =
-      walk_Meets 𝓛 ended stayed (Goes-dropped 𝓛 1 (RefOf (0 ∷ []) tt (plain (λ _. Row.the_row)) (λ _. tt)) yes (λ κs x f. refl), tt) held
+      walk_Meets 𝓛 ended stayed (Goes-dropped 𝓛 1 (RefOf (0 ∷ []) tt (plain (λ _. Window.the_row)) (λ _. tt)) yes (λ κs x f. refl), tt) held
       (WpFn 𝓤 H 𝓣.C 𝓣.Λ function) (WpFn-mono 𝓤 H 𝓛.laws 𝓣 function) (walks 𝓣.C 𝓣.Λ)
 
 pub of_spec : {M : Type 1} → stated.statement M
