@@ -55,8 +55,9 @@ is_doc_line line = starts_with nat_eq line (codes "{")
 abbrev pub docs_in : List (List ℕ) → ℕ
 docs_in lines = length (filter is_doc_line lines)
 
--- The report about the confirmed blocks of a journal: their numbers of bytes, lines and documents, the hash and the
--- sequence of the last block, and the `lacks` lines of the documents whose requested leaves are missing.
+-- The report about the confirmed blocks of a journal. It has the blocks' numbers of bytes, lines and documents, and the
+-- hash and sequence of the last block. It also has the `lacks` lines of the documents whose requested leaves are
+-- missing.
 abbrev pub report_text : ℕ → ℕ → ℕ → List ℕ → List ℕ → List (List ℕ × List ℕ) → List ℕ
 report_text bytes lines docs chain seq table =
     codes "confirmed " ++ decimal bytes ++ codes " " ++ decimal lines ++ codes " " ++ decimal docs ++ codes " " ++ chain ++ codes " "
@@ -201,7 +202,7 @@ EndsLine tooks.Held old new = new ≡ old
 EndsLine (tooks.Closed body) old new = ClosesBlock old new
 EndsLine tooks.Damaged old new = new ≡ old
 
--- The task has read the given lines, and has printed nothing.
+-- The task has read the given lines, and has not printed any text.
 pub record IsConfirming (at : Option (List ℕ)) (lines : List (List ℕ)) (text : List ℕ) (task : Confirm) : Type 0 where
   pub place : IsAt task.blocks (place_after lines)
   pub leaves_are : task.leaves ≡ docs_in (place_after lines).confirmed

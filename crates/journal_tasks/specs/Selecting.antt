@@ -27,8 +27,8 @@ is_asked (Some only) id = bytes_eq only id
 abbrev pub is_selected : Bool → Option (List ℕ) → List ℕ → ℕ → Bool
 is_selected several only id count = (if several then nat_le 2 count else true) && is_asked only id
 
--- The arguments of the task: the size of the journal, whether selected documents must have two or more leaves, the id
--- of the only selected document, and whether checksums are ignored.
+-- The arguments of the task. They give the size of the journal, and whether selected documents must have two or more
+-- leaves. They also give the id of the only selected document, and whether checksums are ignored.
 pub record Choice : Type 0 where
   pub size : ℕ
   pub several : Bool
@@ -37,8 +37,8 @@ pub record Choice : Type 0 where
 
 -- ---- the two copies
 
--- The lines of the first copy of a journal of `size` bytes: the fewest lines at the input's beginning that have `size`
--- bytes or more, or all lines if the input has fewer bytes.
+-- The lines of the first copy of a journal of `size` bytes. They are the fewest lines at the input's beginning that have
+-- `size` bytes or more, or all lines if the input has fewer bytes.
 abbrev pub first_copy : ℕ → List (List ℕ) → List (List ℕ)
 first_copy size [] = []
 first_copy size (line ∷ lines) = if nat_eq size 0 then [] else line ∷ first_copy (size - (length line + 1)) lines
@@ -132,7 +132,7 @@ abbrev pub lines_at : (ℕ → Bool) → ℕ → List (List ℕ) → List ℕ
 lines_at test before [] = []
 lines_at test before (line ∷ lines) = (if test (before + 1) then line ++ codes "\n" else []) ++ lines_at test (before + 1) lines
 
--- Whether the task prints lines: the first copy is not damaged, and none of its lines has a wrong form.
+-- Whether the task prints lines: the first copy is not damaged, and each of its lines has a right form.
 abbrev pub prints : Choice → List (List ℕ) → Bool
 prints choice first = not (is_copy_damaged choice first) && is_none (wrong_in first [])
 

@@ -184,7 +184,7 @@ pub record IsReading (unverified : Bool) (lines : List (List ℕ)) (journal : Jo
   pub counting : (place_of unverified lines).whole ≡ true → IsCounting is_wrong_line lines journal.count
   pub states_are : (place_of unverified lines).whole ≡ true → states_view journal.states ≡ states_of (entries_of lines)
 
--- The task has read the given lines, and has printed nothing.
+-- The task has read the given lines, and has not printed any text.
 pub record IsStating (unverified : Bool) (lines : List (List ℕ)) (text : List ℕ) (task : States) : Type 0 where
   pub reading : IsReading unverified lines task.journal
   pub text_is : text ≡ []

@@ -367,8 +367,8 @@ impl LineTask for Select {
 }
 
 /// Reads two copies of a journal of `size` bytes, and writes the last line of each leaf in the last state of a selected
-/// document. If the checksums do not confirm the first copy, and `filter` does not ignore checksums, the call writes
-/// nothing.
+/// document. If the checksums do not confirm the first copy, and `filter` does not ignore checksums, the call does not
+/// write any line.
 ///
 /// # Errors
 ///

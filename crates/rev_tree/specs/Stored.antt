@@ -14,15 +14,15 @@ use Rattle.rev_tree.specs.declared.stored.Held.TheVariants as held
 use Rattle.rev_tree.specs.declared.stored.Shared.{Shared}
 use Rattle.rev_tree.specs.declared.stored.Shared.TheVariants as shared
 
--- What a tree stores: its nodes, the origins of their revisions, the index of the winner's node, and whether the nodes
--- are in a list, which a tree with one revision may lack.
+-- What a tree stores: its nodes, the origins of their revisions, and the index of the winner's node. The value also says
+-- whether the nodes are in a list, because a tree with one revision may store its node without a list.
 pub record StoredValue : Type 0 where
   pub items : List NodeValue
   pub origins : OriginsValue
   pub best : ℕ
   pub listed : Bool
 
--- The heap block of a tree: nothing for an empty tree, the only node of a tree, or a block with a list of nodes.
+-- The heap block of a tree: no block for an empty tree, the only node of a tree, or a block with a list of nodes.
 pub data SharedValue : Type 0 where
   nothing : SharedValue
   only : NodeValue → SharedValue

@@ -87,8 +87,8 @@ pub(crate) struct Stored {
     alloc: Global,
 }
 
-/// The forms in which a tree is stored: an empty tree, a tree with one revision (`LocalOne`, `FeedOne`), a list of nodes
-/// whose revisions all have one origin (`Local`, `Feed`), or a list of nodes with the origin of each node.
+/// The forms in which a tree is stored. A tree is empty, or has one revision (`LocalOne`, `FeedOne`), or has a list of
+/// nodes. The revisions of a list all have one origin (`Local`, `Feed`), or the list has the origin of each node.
 ///
 /// One enum holds the heap block and the origins, because an `Option` of an `Arc` beside an enum of the origins takes 8
 /// bytes more.

@@ -1,15 +1,15 @@
--- Defines how a list of document ids is stored: the bytes of all ids one after the other, and the index at which each
+-- Defines how a list of document ids is stored: the bytes of all ids consecutively, and the index at which each
 -- id ends.
 use Rattle.std.specs.Prelude.{ℕ, ◌+◌, ◌≤◌, List, [], ◌∷◌, length}
 use Rattle.std.specs.List.{slice_range}
 use Rattle.couch_base.specs.Database.{Id}
 
--- The indexes at which the ids end, if the ids are stored one after the other and the first id begins at index `start`.
+-- The indexes at which the ids end, if the ids are stored consecutively and the first id begins at index `start`.
 abbrev pub ends_from : ℕ → List Id → List ℕ
 ends_from start [] = []
 ends_from start (id ∷ ids) = (start + length id) ∷ ends_from (start + length id) ids
 
--- The ids that are stored one after the other in a text. The first id begins at index `start`, and each id ends at the
+-- The ids that a text stores consecutively. The first id begins at index `start`, and each id ends at the
 -- index in `ends`.
 abbrev pub ids_from : ℕ → List ℕ → List ℕ → List Id
 ids_from start [] text = []

@@ -1,4 +1,4 @@
-//! The ids of a done window's rows, stored one after the other.
+//! The ids of a done window's rows, stored consecutively.
 ghost use Rattle.std.specs.Prelude.{◌≡◌, ◌+◌, IfOk, length, map};
 ghost use Rattle.std.specs.List.{flat_map, list_any};
 ghost use Rattle.std.specs.Str.{bytes_eq};
@@ -51,7 +51,7 @@ impl PackedIds {
     }
 }
 
-/// Returns the index at which each id ends if the ids of the rows are stored one after the other, and the number of
+/// Returns the index at which each id ends if the ids of the rows are stored consecutively, and the number of
 /// bytes of all ids. Fails if an allocation fails, or if the ids have more than `MOST_BYTES` bytes together.
 fn ends_of(alloc: Global, rows: &[Row]) -> Result<(Vec<u32>, u32), AllocError>
     ensures ends { IfOk result (λ r. r.0.items ≡ ends_from 0 (map (λ row. row.id) rows.now)) }
@@ -77,7 +77,7 @@ fn end_after(start: u32, id: &DocId) -> Result<u32, AllocError>
     Ok(start + len as u32)
 }
 
-/// Returns the ids of the rows, one after the other. The caller gives the number of bytes of all ids.
+/// Returns the bytes of the rows' ids, consecutively. The caller gives the number of bytes of all ids.
 fn text_of(alloc: Global, rows: &[Row], len: usize) -> Result<Vec<u8>, AllocError>
     requires len { len ≡ length (flat_map (λ row. row.id) rows.now) }
     ensures text { IfOk result (λ text. text.items ≡ flat_map (λ row. row.id) rows.now) }
@@ -89,7 +89,7 @@ fn text_of(alloc: Global, rows: &[Row], len: usize) -> Result<Vec<u8>, AllocErro
     Ok(text)
 }
 
-/// Whether one of the ids that are stored one after the other in `text` is a given id.
+/// Whether one of the ids that `text` stores consecutively is a given id.
 fn has_text(text: &[u8], ends: &[u32], id: &[u8]) -> bool
     requires { AreEnds 0 ends.now (length text.now) }
     ensures { result ≡ list_any (λ own. bytes_eq own id.now) (ids_from 0 ends.now text.now) }
