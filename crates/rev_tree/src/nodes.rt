@@ -22,10 +22,6 @@ use std::slice::from_ref;
 /// generation below the previous node.
 pub(crate) const MOST_WALKED: usize = 8;
 
-/// The maximum sum of a tree's nodes and the given revisions for which a merge counts the missing revisions. A merge
-/// that counts the missing revisions reserves space only for these missing revisions.
-const MOST_COUNTED: usize = 4;
-
 /// The maximum number of nodes of a tree. The index of a parent, counted from 1, has 32 bits.
 const MOST_NODES: usize = u32::MAX as usize;
 
@@ -119,10 +115,8 @@ impl Nodes {
     }
 
     /// Reserves space for inserting an ancestry, and returns the heap blocks that the inserted revisions need. If the
-    /// sum of nodes and given revisions is at most `MOST_COUNTED`, the call reserves space only for the revisions that
-    /// the tree lacks. For a sum of nodes and given revisions from `MOST_COUNTED + 1` to `MOST_WALKED`, the call
-    /// reserves exactly the space for all given revisions. The call fails if the tree could get more than `MOST_NODES`
-    /// nodes.
+    /// sum of nodes and given revisions is at most `MOST_WALKED`, the call reserves space only for the revisions that
+    /// the tree lacks. The call fails if the tree could get more than `MOST_NODES` nodes.
     #[tactic(auto, using(crate::proofs::Rooms::count_within))]
     pub(crate) fn make_room(&mut self, revs: &[Rev]) -> Result<Vec<Box<Sig>>, AllocError>
         ensures items { self.new.items ≡ self.old.items }
@@ -450,19 +444,16 @@ fn once_new(nodes: &[Node], rev: &Rev) -> usize
 }
 
 /// Reserves space in the list for the revisions of an ancestry. If the sum of nodes and given revisions is at most
-/// `MOST_COUNTED`, the call reserves space only for the revisions that the list lacks. For a sum of nodes and given
-/// revisions from `MOST_COUNTED + 1` to `MOST_WALKED`, the call reserves exactly the space for all given revisions.
+/// `MOST_WALKED`, the call reserves space only for the revisions that the list lacks.
 #[tactic(auto, using(crate::proofs::Rooms::count_within))]
 fn reserve_nodes(list: &mut Vec<Node>, revs: &[Rev]) -> Result<(), AllocError>
     ensures items { list.new.items ≡ list.old.items }
     ensures room { OnOk result (length list.new.items + count_new (revs_in list.new.items) revs.now ≤ vec_capacity list.new) }
 {
     let all = list.as_slice().len() + revs.len();
-    if all <= MOST_COUNTED {
+    if all <= MOST_WALKED {
         let more = count_new(list, revs).min(revs.len());
         list.reserve_exact(more)
-    } else if all <= MOST_WALKED {
-        list.reserve_exact(revs.len())
     } else {
         list.reserve(revs.len())
     }
