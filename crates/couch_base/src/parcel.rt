@@ -179,7 +179,8 @@ impl Parcel {
 }
 
 /// Builds the trees that documents would have if they were new at the target. The item `made[i]` is the tree of
-/// `docs[i]`, if there is one, and the call builds the others.
+/// `docs[i]`, if there is one, and the call builds the others. The call builds no tree for a document whose predecessor
+/// in the list has the same id. Such a document is not new at the target once the predecessor is stored.
 fn make_missing(
     alloc: Global,
     docs: &[Doc],
@@ -190,7 +191,9 @@ fn make_missing(
 {
     pad(docs.len(), made)?;
     for i in 0..docs.len() {
-        make_if_none(alloc, &docs[i], &mut made[i])?;
+        if i == 0 || docs[i - 1].id() != docs[i].id() {
+            make_if_none(alloc, &docs[i], &mut made[i])?;
+        }
     }
     Ok(())
 }

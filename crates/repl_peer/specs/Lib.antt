@@ -29,7 +29,7 @@ pub use session.Settling.{Halts, SettleGives, Settles, SettlesAt, Settling, afte
 pub use session.Settling.{asked_count, fed, has_room, has_row, is_full, is_uncovered, leaf_count, marked, seq_in, settle_as, settle_at, settle_check}
 pub use session.Settling.{settle_docs, settle_one, settled_at, settled_before, settling_of, stopped_at, stops_as, stops_at, stops_in, window_in}
 pub use session.Settling.{with_arrival, with_checked, with_done, with_refused, with_settling}
-pub use session.SettlingParts.{Consecutive, IndexesMore, IsIndexedWith, IsRowOf, IsSameIndex, IsWindowAt, KeepsIndexed, Marks, PartsGive}
+pub use session.SettlingParts.{Consecutive, HasDocuments, IndexesMore, IsIndexedWith, IsRowOf, IsSameIndex, IsWindowAt, KeepsIndexed, Marks, PartsGive}
 pub use session.SettlingParts.{PartsSettle, PartsSettled, Passes, Reached, ReachedAll, Steps, cause_at, known_of, settling_at, with_mark, with_parts}
 pub use session.Stored.{session_value}
 pub use session.StoredSessions.{AreListed, Indexes, IsTableOf, ids_of, sessions_of}

@@ -279,6 +279,13 @@ impl<F: WriteFilter> Peer<F> {
         Ok(None)
     }
 
+    /// Reserves the capacity that storing all documents of another peer needs (`Database::reserve_like`).
+    pub fn reserve_like<G: WriteFilter>(&mut self, other: &Peer<G>)
+        ensures same { self.new ≡ self.old }
+    {
+        self.db.reserve_like(&other.db);
+    }
+
     // ---- sessions
 
     /// Begins a session, which becomes the peer's newest session.

@@ -1,10 +1,12 @@
 //! Performs one replication with a pool of threads.
-ghost use Rattle.std.specs.Prelude.{◌≡◌, ◌<◌, ◌≤◌, [], true, Some, None, IfOk, is_none, sum, vec_len, option_copied};
+ghost use Rattle.std.specs.Prelude.{◌≡◌, ◌⊎◌, ◌<◌, ◌≤◌, [], true, Some, None, Ok, Err, IfOk, IfErr, OnOk, OnErr, is_none, sum, vec_len, option_copied};
 ghost use Rattle.std.specs.List.{All};
-ghost use Rattle.couch_base.specs.Database.{DatabaseValue};
+ghost use Rattle.couch_base.specs.Database.{DatabaseValue, LawfulDatabase};
 ghost use Rattle.repl_peer.specs.peer.Peer.{SessionValue, session_in};
+ghost use Rattle.repl_peer.specs.peer.Law.{Lawful};
 ghost use Rattle.repl_peer.specs.session.ReadCounts.{read_in};
-ghost use Rattle.repl_target.specs.replication.Replication.{is_batch};
+ghost use Rattle.repl_peer.specs.declared.fault.TargetFault.TheVariants as faults;
+ghost use Rattle.repl_target.specs.replication.Replication.{is_batch, start_between, begins_answer, after_begins};
 ghost use Rattle.doc_json.specs.Chosen.{Choice};
 ghost use Rattle.pool_workers.specs.Grown.{GrownPeer, HasRun};
 ghost use Rattle.pool_workers.specs.Paging.{HasNoWindows};
@@ -19,7 +21,7 @@ use pool_workers::{
     TargetBrand, collect,
 };
 use progress_board::{Board, BoardSeat};
-use repl_target::{Peer, Plan, Report, WriteFilter, begin_plan};
+use repl_target::{Peer, Plan, Report, TargetFault, WriteFilter, begin_plan};
 use std::alloc::Global;
 use std::marker::Brand;
 use std::sync::ledger::{Blank, Ledger};
@@ -225,6 +227,32 @@ fn run_begun<
     end(source, summed, plan)
 }
 
+/// Begins the session of a plan (`begin_plan`). If the plan has several workers and selects all documents, the call also
+/// reserves the capacity for the source's documents at the target (`Peer::reserve_like`). Without the reserved capacity,
+/// a writer would move the stored documents to larger blocks while the other writers wait for the target's lock.
+fn begin_reserved<F: WriteFilter>(
+    source: &Peer<F>,
+    target: &mut Peer<F>,
+    plan: &Plan,
+) -> Result<u64, TargetFault>
+    ensures filter { target.new.0 ≡ target.old.0 }
+    ensures start { IfOk result (λ start. start ≡ start_between source.now.1 target.old.1 plan.now.chosen) }
+    ensures ok { OnOk result
+        ((begins_answer source.now.1 target.old.1 plan.now ≡ Ok tt)
+        × (target.new.1 ≡ after_begins source.now.1 target.old.1 plan.now)) }
+    ensures err { OnErr result (target.new.1 ≡ target.old.1) }
+    ensures refused { IfErr result
+        (λ why. (why ≡ faults.Memory) ⊎ (begins_answer source.now.1 target.old.1 plan.now ≡ Err why)) }
+    ensures target_law { Lawful (F.refuses target.new.0) target.new.1 }
+    ensures source_law { LawfulDatabase source.now.1.db }
+{
+    let begun = begin_plan(source, target, plan);
+    if begun.is_ok() && plan.workers > 1 && plan.chosen.is_none() {
+        target.reserve_like(source);
+    }
+    begun
+}
+
 /// Performs a run with a board (`run_on`) or without a board (`run`).
 fn run_with<F: WriteFilter + Send + Sync, G: Gate + Sync, R: Threads + Wait + Sync>(
     rt: &R,
@@ -255,7 +283,7 @@ fn run_with<F: WriteFilter + Send + Sync, G: Gate + Sync, R: Threads + Wait + Sy
         };
     }
     let mut target = target;
-    match begin_plan(&source, &mut target, plan) {
+    match begin_reserved(&source, &mut target, plan) {
         Ok(start) => {
             let crew = crew_of(plan, start, source.db().update_seq());
             let blank = Blank::new(crew);

@@ -1,6 +1,6 @@
 -- Members of filtered or concatenated lists, and members by index.
 use Rattle.proof_prelude.proofs.{◌≡◌, ◌⊎◌, ℕ, zero, suc, List, [], ◌∷◌, ◌++◌, filter, Bool, true, Some, slice_get, sym, ap, ◌∙◌, subst, inl, inr, eq_by_cmp, cond_both, both_ways, or_cases, or_left, or_right, false≢true}
-use Rattle.rev_core.specs.{RevId, rev_cmp, rev_tie_is, rev_tie_self, is_among}
+use Rattle.rev_core.specs.{RevId, head_of, rev_cmp, rev_tie_is, rev_tie_self, is_among}
 use Rattle.couch_base.specs.{Among, some_is, none_some}
 
 pub Among-filter : {X : Type 0} (p : X → Bool) (x : X) (xs : List X) → Among x (filter p xs) → Among x xs × (p x ≡ true)
@@ -38,3 +38,8 @@ among_test r (x ∷ xs) (inr m) = or_right _ _ (among_test r xs m)
 pub among_from : (r : RevId) (xs : List RevId) → is_among r xs ≡ true → Among r xs
 among_from r [] h = absurd (false≢true h)
 among_from r (x ∷ xs) h = elim (or_cases _ _ h) [ inl tie ↦ inl (rev_tie_is r x tie) | inr later ↦ inr (among_from r xs later) ]
+
+-- the newest revision of an ancestry is among its revisions
+pub head_among : (revs : List RevId) (x r : RevId) → head_of revs ≡ Some x → x ≡ r → is_among r revs ≡ true
+head_among [] x r h e = absurd (none_some x h)
+head_among (y ∷ revs) x r h e = among_test r (y ∷ revs) (inl (sym (some_is y x h ∙ e)))

@@ -8,6 +8,7 @@ pub mod FirstUnknownLeaf
 pub mod WindowsFound
 pub mod StoredWindows
 pub mod SettlingDocuments
+pub mod StoredDocuments
 pub mod SettlingChecks
 pub mod SessionLaws
 pub mod SettlingParcels

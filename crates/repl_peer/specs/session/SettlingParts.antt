@@ -7,6 +7,7 @@ use Rattle.rev_core.specs.Ancestry.{is_among}
 use Rattle.rev_tree.specs.Tree.{has}
 use Rattle.rev_tree.specs.declared.origin.Origin.{Origin}
 use Rattle.doc_json.specs.Document.{Document}
+use Rattle.couch_base.specs.Lists.{Among}
 use Rattle.couch_base.specs.Database.{Id, DatabaseValue, tree_of}
 use Rattle.couch_base.specs.Feed.{RowValue, WindowValue}
 use Rattle.couch_base.specs.Messages.{ParcelValue}
@@ -106,6 +107,11 @@ pub record SettlesAndMarks (refuses : Document → Bool) (known : Id → RevId �
   pub settling : after ≡ with_mark w parcel (settle_docs refuses w before parcel.docs)
   pub covered : first_unknown known w.rows ≡ None
   pub counts : GrownBy (settle_docs refuses w before parcel.docs).session.counts before.session.counts settled
+
+-- Each revision in the ancestries of the documents `docs` is in the tree of the document in the database.
+abbrev pub HasDocuments : DatabaseValue → List Document → Type 0
+HasDocuments db docs =
+    (d : Document) → Among d docs → (r : RevId) → is_among r d.ancestry ≡ true → has (tree_of db.docs d.id) r ≡ true
 
 -- ---- the parcel
 

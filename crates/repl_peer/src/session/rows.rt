@@ -1,14 +1,16 @@
 //! Searches the rows of a window.
-ghost use Rattle.std.specs.Prelude.{◌≡◌, ◌≤◌, ◌-◌, ◌^◌, ◌||◌, true, false, not, map, length, min, unwrap_or, IfSome, IfNone};
+ghost use Rattle.std.specs.Prelude.{◌≡◌, ◌≤◌, ◌-◌, ◌^◌, ◌||◌, None, true, false, not, map, length, min, unwrap_or, IfSome, IfNone};
 ghost use Rattle.std.specs.List.{find, list_any, list_all, sum_by};
 ghost use Rattle.std.specs.Option.{option_map, option_copied};
 ghost use Rattle.std.specs.Str.{bytes_eq};
 ghost use Rattle.rev_tree.specs.Tree.{has, no_revisions};
+ghost use Rattle.couch_base.specs.Database.{DatabaseValue, tree_of};
 ghost use Rattle.couch_base.specs.Lists.{EachOnce};
 ghost use Rattle.repl_peer.specs.peer.Covered.{first_unknown};
 ghost use Rattle.repl_peer.specs.session.LedgerIndex.{is_ledgered};
 ghost use Rattle.repl_peer.specs.session.Settling.{seq_in};
-ghost use Rattle.repl_peer.specs.session.SettlingParts.{known_of, IsRowOf};
+ghost use Rattle.repl_peer.specs.session.SettlingParts.{known_of, HasDocuments, IsRowOf};
+ghost use Rattle.repl_peer.specs.declared.session.ledger_index.LedgerIndex.{LedgerIndex};
 
 use crate::session::ledger_index::LedgerIndex;
 use couch_base::{Database, LookupHint, Row, Wanted};
@@ -137,19 +139,82 @@ fn unknown_in(
     None
 }
 
+/// Whether the list has a document at index `i`, and that document has the given id and the given newest revision.
+fn brings(docs: &[Doc], i: usize, id: &DocId, rev: Rev) -> bool
+    ensures { result ≡ true → (db : DatabaseValue) → HasDocuments db docs.now → has (tree_of db.docs id.now) rev ≡ true }
+{
+    match docs.get(i) {
+        Some(doc) => doc.id() == id && doc.ancestry().head() == rev,
+        None => false,
+    }
+}
+
+/// Whether the documents from index `from` on bring the leaves of a row, in the order of the leaves.
+fn brings_all(docs: &[Doc], from: usize, row: &Row) -> bool
+    ensures { result ≡ true → (db : DatabaseValue) (index : LedgerIndex) → HasDocuments db docs.now
+        → find (λ rev. not (known_of db index row.now.id rev)) row.now.leaves ≡ None }
+{
+    let mut next = from;
+    for rev in row.leaves() {
+        if !brings(docs, next, row.id(), *rev) {
+            return false;
+        }
+        next = next.saturating_add(1);
+    }
+    true
+}
+
+/// Returns the index of the first document from index `from` on that does not have the given id.
+fn after_id(docs: &[Doc], from: usize, id: &DocId) -> usize {
+    for i in from..docs.len() {
+        if docs[i].id() != id {
+            return i;
+        }
+    }
+    docs.len()
+}
+
+/// Does the same as `unknown_in`, but looks first whether the leaves of the row are stored documents. `docs` are stored
+/// documents, in the order of the rows. `next` is the index of the row's first document, if the row has documents, and
+/// the call moves `next` after the row's documents.
+fn unknown_of(
+    db: &Database,
+    ledgered: &LedgerIndex,
+    row: &Row,
+    near: &mut LookupHint,
+    docs: &[Doc],
+    next: &mut usize,
+) -> Option<Rev>
+    requires { HasDocuments db.now docs.now }
+    ensures { result ≡ find (λ rev. not (known_of db.now ledgered.now row.now.id rev)) row.now.leaves }
+{
+    if brings_all(docs, *next, row) {
+        *next = next.saturating_add(row.leaves().len());
+        return None;
+    }
+    *next = after_id(docs, *next, row.id());
+    unknown_in(db, ledgered, row, near)
+}
+
 /// Returns the first unknown leaf of the rows, with the leaf's row. A leaf is unknown if it is neither in its
 /// document's tree nor in the index of refused revisions.
+///
+/// `docs` are documents that the database has stored. The call looks up no tree for the rows of `docs`, if the
+/// documents are in the order of the rows and of the leaves.
 pub(crate) fn first_unknown<'a>(
     db: &Database,
     ledgered: &LedgerIndex,
     rows: &'a [Row],
+    docs: &[Doc],
 ) -> Option<(&'a Row, Rev)>
+    requires { HasDocuments db.now docs.now }
     ensures { option_map (λ u. record { seq = u.0.now.seq; id = u.0.now.id; rev = u.1 }) result
         ≡ first_unknown (known_of db.now ledgered.now) rows.now }
 {
     let mut near = LookupHint::new();
+    let mut next = 0;
     for row in rows {
-        if let Some(rev) = unknown_in(db, ledgered, row, &mut near) {
+        if let Some(rev) = unknown_of(db, ledgered, row, &mut near, docs, &mut next) {
             return Some((row, rev));
         }
     }

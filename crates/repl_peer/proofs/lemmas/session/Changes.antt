@@ -81,7 +81,7 @@ refused_rightly refuses db d reason h = go (refuses d) (contradiction_of db d) h
     go false None h = absurd (none_some reason h)
 
 -- a document that is not refused contradicts nothing
-none_refused : (refuses : Document → Bool) (db : DatabaseValue) (d : Document) → refusal_of refuses db d ≡ None → contradiction_of db d ≡ None
+pub none_refused : (refuses : Document → Bool) (db : DatabaseValue) (d : Document) → refusal_of refuses db d ≡ None → contradiction_of db d ≡ None
 none_refused refuses db d h = go (refuses d) (contradiction_of db d) h
   where
     go : (b : Bool) (c : Option Contradiction) → cond b (Some reasons.Filtered) (option_map (λ (k : Contradiction). reasons.Contradicting k.child k.known k.given) c) ≡ None → c ≡ None

@@ -136,10 +136,10 @@ before-le refuses w z (d ∷ ds) =
     (λ _. omega arith)
     (λ _. omega (arith, rest))
 
-goes_on : (refuses : Document → Bool) (w : WindowValue) (z : Settling) (d : Document) (ds : List Document) → stops_at refuses z d ≡ false → settled_before refuses w z (d ∷ ds) ≡ settled_before refuses w (settle_one refuses w z d) ds + 1
+pub goes_on : (refuses : Document → Bool) (w : WindowValue) (z : Settling) (d : Document) (ds : List Document) → stops_at refuses z d ≡ false → settled_before refuses w z (d ∷ ds) ≡ settled_before refuses w (settle_one refuses w z d) ds + 1
 goes_on refuses w z d ds goes = cond-false (stops_at refuses z d) 0 (settled_before refuses w (settle_one refuses w z d) ds + 1) goes
 
-halts : (refuses : Document → Bool) (w : WindowValue) (z : Settling) (d : Document) (ds : List Document) → stops_at refuses z d ≡ true → settled_before refuses w z (d ∷ ds) ≡ 0
+pub halts : (refuses : Document → Bool) (w : WindowValue) (z : Settling) (d : Document) (ds : List Document) → stops_at refuses z d ≡ true → settled_before refuses w z (d ∷ ds) ≡ 0
 halts refuses w z d ds stops = cond-true (stops_at refuses z d) 0 (settled_before refuses w (settle_one refuses w z d) ds + 1) stops
 
 -- what is settled before the first document that stops is a prefix, followed by what is settled after it

@@ -36,19 +36,19 @@ run_begun-requires-clause-none g c κs within =
     ap (λ (q : PeerValue). read_in q.sessions c.args.plan.now.session) c.in-Ok.ensures.ok.1 ∙ begun_reads c.args.source.1 c.args.target.1 c.args.plan.now c.in-Ok.ensures.ok.0
 
 pub run_begun-requires-clause-fresh : goal.run_begun-requires-clause-fresh
-run_begun-requires-clause-fresh g c κs within = begun_fresh c.args.source.1 c.args.target.1 c.args.plan.now c.begin_plan.new.target.1 c.in-Ok.ensures.ok.0 c.in-Ok.ensures.ok.1
+run_begun-requires-clause-fresh g c κs within = begun_fresh c.args.source.1 c.args.target.1 c.args.plan.now c.begin_reserved.new.target.1 c.in-Ok.ensures.ok.0 c.in-Ok.ensures.ok.1
 
 pub run_begun-requires-clause-run : goal.run_begun-requires-clause-run
-run_begun-requires-clause-run g c κs within = begun_run c.args.source.1 c.args.target.1 c.args.plan.now c.begin_plan.new.target.1 c.in-Ok.ensures.ok.0 c.in-Ok.ensures.ok.1
+run_begun-requires-clause-run g c κs within = begun_run c.args.source.1 c.args.target.1 c.args.plan.now c.begin_reserved.new.target.1 c.in-Ok.ensures.ok.0 c.in-Ok.ensures.ok.1
 
 pub run_begun-requires-clause-held : goal.run_begun-requires-clause-held
-run_begun-requires-clause-held g c κs within = begun_held c.args.source.1 c.args.target.1 c.args.plan.now c.begin_plan.new.target.1 c.in-Ok.ensures.ok.0 c.in-Ok.ensures.ok.1
+run_begun-requires-clause-held g c κs within = begun_held c.args.source.1 c.args.target.1 c.args.plan.now c.begin_reserved.new.target.1 c.in-Ok.ensures.ok.0 c.in-Ok.ensures.ok.1
 
 pub returns-in-Ok-clause-runs : goal.returns-in-Ok-clause-runs
 returns-in-Ok-clause-runs g c =
     let e = c.in-Ok.ensures in
     let early : early_answer c.args.source.1 c.args.target.1 c.args.plan.now ≡ Ok tt = sym c.check_run.ensures ∙ c.in_default.is in
-    runs_begun g.F.WriteFilter.refuses (MayFill (option_copied c.args.shows.board)) (g.G.Gate.may_stop c.args.gate.now) c.args.plan.now c.args.source c.args.target c.begin_plan.new.target _ c.run_begun.result.source c.run_begun.result.target _
+    runs_begun g.F.WriteFilter.refuses (MayFill (option_copied c.args.shows.board)) (g.G.Gate.may_stop c.args.gate.now) c.args.plan.now c.args.source c.args.target c.begin_reserved.new.target _ c.run_begun.result.source c.run_begun.result.target _
     early e.source_law c.law-2.ensures.peer.sessions e.target_law.sessions e.ok.0 e.filter e.ok.1
     c.run_begun.ensures.filter c.run_begun.ensures.source c.run_begun.ensures.grown c.run_begun.ensures.ends
 
@@ -63,13 +63,13 @@ returns-in-Err-clause-runs g c =
 pub returns-in-Err-clause-back : goal.returns-in-Err-clause-back
 returns-in-Err-clause-back g c = back_same (option_copied c.args.shows.board) _ (seats_seated (option_copied c.args.shows.board) 0 c.args.plan.now.workers _ c.requires.seats)
 
-pub returns-in-Err-begin_plan-clause-runs : goal.returns-in-Err-begin_plan-clause-runs
-returns-in-Err-begin_plan-clause-runs g c =
+pub returns-in-Err-begin_reserved-clause-runs : goal.returns-in-Err-begin_reserved-clause-runs
+returns-in-Err-begin_reserved-clause-runs g c =
     let early : early_answer c.args.source.1 c.args.target.1 c.args.plan.now ≡ Ok tt = sym c.check_run.ensures ∙ c.in_default.is in
-    runs_refused g.F.WriteFilter.refuses (MayFill (option_copied c.args.shows.board)) (g.G.Gate.may_stop c.args.gate.now) c.args.plan.now c.args.source c.args.target _ _ c.begin_plan.new.target c.law-2.ensures.peer.sessions early c.in-Err-begin_plan.ensures.refused c.in-Err-begin_plan.ensures.filter c.in-Err-begin_plan.ensures.err
+    runs_refused g.F.WriteFilter.refuses (MayFill (option_copied c.args.shows.board)) (g.G.Gate.may_stop c.args.gate.now) c.args.plan.now c.args.source c.args.target _ _ c.begin_reserved.new.target c.law-2.ensures.peer.sessions early c.in-Err-begin_reserved.ensures.refused c.in-Err-begin_reserved.ensures.filter c.in-Err-begin_reserved.ensures.err
 
-pub returns-in-Err-begin_plan-clause-back : goal.returns-in-Err-begin_plan-clause-back
-returns-in-Err-begin_plan-clause-back g c = back_same (option_copied c.args.shows.board) _ (seats_seated (option_copied c.args.shows.board) 0 c.args.plan.now.workers _ c.requires.seats)
+pub returns-in-Err-begin_reserved-clause-back : goal.returns-in-Err-begin_reserved-clause-back
+returns-in-Err-begin_reserved-clause-back g c = back_same (option_copied c.args.shows.board) _ (seats_seated (option_copied c.args.shows.board) 0 c.args.plan.now.workers _ c.requires.seats)
 
 pub run_begun-requires-clause-batch : goal.run_begun-requires-clause-batch
 run_begun-requires-clause-batch g c κs within =
