@@ -19,7 +19,7 @@ idle_snoc views w mine others j u at none =
 module _ {S : Type 0} where
   pub parcels-append : (xs ys : List (ParcelMessage S)) → parcels (xs ++ ys) ≡ parcels xs ++ parcels ys
   parcels-append [] ys = refl
-  parcels-append (Parcel number parcel ∷ xs) ys = ap (λ l. (number, length parcel.docs) ∷ l) (parcels-append xs ys)
+  parcels-append (Parcel number found ∷ xs) ys = ap (λ l. (number, length found.parcel.docs) ∷ l) (parcels-append xs ys)
   parcels-append (End ∷ xs) ys = parcels-append xs ys
 
   weigh-items : (h : ℕ → ℕ → ℕ) (xs ys : List (ParcelMessage S)) → weigh h (parcels (xs ++ ys)) ≡ weigh h (parcels xs) + weigh h (parcels ys)

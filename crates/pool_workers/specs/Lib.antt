@@ -1,4 +1,5 @@
 pub mod Sums
+pub mod Found
 pub mod Parcels
 pub mod Windows
 pub mod Gates
@@ -11,6 +12,7 @@ pub mod Idle
 pub mod Gathered
 pub mod Scopes
 pub use Sums.{once_below, times, total, weigh}
+pub use Found.{FoundValue}
 pub use Parcels.{Accounts, Balanced, IdleIsEmpty, has_got, has_sent, parcel_view, parcels}
 pub use Windows.{Covers, KeepsRole, Numbered, has_read, has_taken, numbers, window_view}
 pub use Faults.{Allows, AllowsOn, IsHaltOn, IsLateOn, IsOneFault, IsStepFault, fault_of}

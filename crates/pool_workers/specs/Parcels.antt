@@ -19,7 +19,7 @@ module _ {S : Type 0} where
   -- For each parcel in a list of messages, a pair of the parcel's number and the number of its documents.
   abbrev pub parcels : List (ParcelMessage S) → List (ℕ × ℕ)
   parcels [] = []
-  parcels (Parcel number parcel ∷ xs) = (number, length parcel.docs) ∷ parcels xs
+  parcels (Parcel number found ∷ xs) = (number, length found.parcel.docs) ∷ parcels xs
   parcels (End ∷ xs) = parcels xs
 
   abbrev pub has_sent : ParcelView → ParcelMessage S → ParcelView

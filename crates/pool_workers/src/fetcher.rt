@@ -58,7 +58,7 @@ fn put<S: SourceBrand, R: Wait>(
     ensures seat { IsSeatAt (sends_on parcels.now) pass.new }
     ensures rule { MatchBool result
         (view pass.new
-        ≡ parcel_view (view pass.old).parts ((view pass.old).sent ++ (number, length fetched.docs) ∷ [])
+        ≡ parcel_view (view pass.old).parts ((view pass.old).sent ++ (number, length fetched.parcel.docs) ∷ [])
         (view pass.old).got)
         (view pass.new ≡ view pass.old) }
 {
@@ -96,7 +96,7 @@ impl<S: SourceBrand> Fetcher<S> {
     )
         requires seat { IsSeatAt (sends_on parcels.now) self.old.parcels }
         requires room { self.old.sent < 2 ^ 64 - 1 }
-        requires counted { HasCounted (number, length fetched.docs) self.old }
+        requires counted { HasCounted (number, length fetched.parcel.docs) self.old }
         ensures seat { IsSeatAt (sends_on parcels.now) self.new.parcels }
         ensures windows { self.new.windows ≡ self.old.windows }
         ensures knows { FetcherKnows [] self.new }
@@ -125,7 +125,7 @@ impl<S: SourceBrand> Fetcher<S> {
         ensures windows { self.new.windows ≡ self.old.windows }
         ensures knows { FetcherKnows [] self.new }
         ensures halted { IfSome self.new.stopped (Allows (G.may_stop gate.now)) }
-        ensures full { IfSome self.new.stopped (SaysFull ((most < self.old.fetched + length fetched.docs)
+        ensures full { IfSome self.new.stopped (SaysFull ((most < self.old.fetched + length fetched.parcel.docs)
             ⊎ (self.old.sent ≡ 2 ^ 64 - 1)) ⊥) }
     {
         let documents = fetched.documents();

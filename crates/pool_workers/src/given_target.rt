@@ -1,5 +1,5 @@
 //! Facts about the run's target that a thread knows without taking the target's lock.
-ghost use Rattle.std.specs.Prelude.{◌≡◌, [], Some, length, IfOk, IfSome};
+ghost use Rattle.std.specs.Prelude.{◌≡◌, ◌==◌, [], Some, length, is_some, IfOk, IfSome};
 ghost use Rattle.std.specs.Option.{ForSome};
 ghost use Rattle.couch_base.specs.Database.{DatabaseValue};
 ghost use Rattle.couch_base.specs.Messages.{revs_diff};
@@ -26,6 +26,7 @@ impl<F: WriteFilter, T: TargetBrand<F>> GivenTarget<F, T> {
     /// Examines the given target.
     pub fn of(alloc: Global, target: &Peer<F>, _session: SessionId) -> GivenTarget<F, T>
         requires { T.given ≡ Some (target.now, _session) }
+        ensures { is_some result.none ≡ (target.now.1.db.update_seq == 0) }
     {
         let db = target.db();
         let none = if db.update_seq() == 0 {
@@ -48,6 +49,7 @@ impl<F: WriteFilter, T: TargetBrand<F>> GivenTarget<F, T> {
         alloc: Global,
         page: &Paged<S>,
     ) -> Option<Result<Asked, AllocError>>
+        ensures some { is_some result ≡ is_some self.now.none }
         ensures given { IfSome result
             (λ r. IfOk r (λ asked. IfSome T.given (λ g. asked ≡ revs_diff g.0.1.db page.now))) }
         ensures whole { IfSome result

@@ -111,14 +111,14 @@ pub struct Found<S: SourceBrand> {
 }
 
 impl<S: SourceBrand> Model for Found<S> {
-    ghost use Rattle.couch_base.specs.Messages.{ParcelValue};
+    ghost use Rattle.pool_workers.specs.Found.{FoundValue};
 
-    ghost Value = { ParcelValue };
+    ghost Value = { FoundValue };
 
     ghost use Rattle.std.specs.Prelude.{◌≡◌, length};
     ghost use Rattle.couch_base.specs.Messages.{open_revs};
 
-    ghost view = { λ f. open_revs S.source f.asked };
+    ghost view = { λ f. record { page = f.page; parcel = open_revs S.source f.asked } };
 
     ghost invariant = { λ f. f.documents ≡ length (open_revs S.source f.asked).docs };
 }
@@ -132,7 +132,7 @@ impl<S: SourceBrand> Found<S> {
         page: Paged<S>,
     ) -> Result<Found<S>, AllocError>
         requires { S.source ≡ source.now.1.db }
-        ensures { IfOk result (λ p. p ≡ open_revs source.now.1.db asked) }
+        ensures { IfOk result (λ f. f ≡ record { page = page; parcel = open_revs source.now.1.db asked }) }
     {
         let documents = source.count_asked(alloc, &asked)?;
         Ok(Found {
@@ -147,7 +147,7 @@ impl<S: SourceBrand> Found<S> {
     pub fn whole<F: WriteFilter>(source: &Peer<F>, asked: Asked, page: Paged<S>) -> Found<S>
         requires source { S.source ≡ source.now.1.db }
         requires whole { (db : DatabaseValue) × (db.docs ≡ []) × (asked ≡ revs_diff db page) }
-        ensures { result ≡ open_revs source.now.1.db asked }
+        ensures { result ≡ record { page = page; parcel = open_revs source.now.1.db asked } }
     {
         source.law();
         let documents = leaf_count(page.window().rows());
@@ -160,13 +160,15 @@ impl<S: SourceBrand> Found<S> {
 
     /// Returns the number of documents that the source returns for the requested leaves.
     pub fn documents(&self) -> u128
-        ensures { result ≡ length self.now.docs }
+        ensures { result ≡ length self.now.parcel.docs }
     {
         self.documents
     }
 
     /// Copies the page whose leaves are requested.
-    pub fn page(&self, alloc: Global) -> Result<Paged<S>, AllocError> {
+    pub fn page(&self, alloc: Global) -> Result<Paged<S>, AllocError>
+        ensures { IfOk result (λ p. p ≡ self.now.page) }
+    {
         self.page.copy(alloc)
     }
 
@@ -179,7 +181,7 @@ impl<S: SourceBrand> Found<S> {
         prepares: bool,
     ) -> Result<Fetched<S>, AllocError>
         requires { S.source ≡ source.now.1.db }
-        ensures { IfOk result (λ p. p ≡ self) }
+        ensures { IfOk result (λ p. p ≡ self.parcel) }
     {
         let Found {
             page: _,

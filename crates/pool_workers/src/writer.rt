@@ -159,9 +159,9 @@ impl<F: WriteFilter, S: SourceBrand, T: TargetBrand<F>, L: Ledger, G: Gate, R: W
         requires parts { 0 < share.old.parts }
         requires seat { IsSeated (option_copied self.now.board) seat.old }
         ensures parts { share.new.parts ≡ share.old.parts }
-        ensures ok { OnOk result (share.new.amount ≡ share.old.amount + length found.docs) }
+        ensures ok { OnOk result (share.new.amount ≡ share.old.amount + length found.parcel.docs) }
         ensures err { IfErr result (AllowsOn (MayFill (option_copied self.now.board)) (G.may_stop self.now.gate.now)) }
-        ensures full { IfErr result (SaysFull ⊥ (IsFullFor (length found.docs) seat.old)) }
+        ensures full { IfErr result (SaysFull ⊥ (IsFullFor (length found.parcel.docs) seat.old)) }
         ensures shows { HasWritten (option_copied self.now.board) share.old.amount share.new.amount (halt_in result)
             seat.old seat.new }
     {
@@ -180,14 +180,14 @@ impl<F: WriteFilter, S: SourceBrand, T: TargetBrand<F>, L: Ledger, G: Gate, R: W
     /// maximum.
     fn write(&self, writer: &mut Writer<S, L>, number: u64, found: Found<S>)
         requires source { S.source ≡ self.now.source.now.1.db }
-        requires knows { WriterKnows ((number, length found.docs) ∷ []) writer.old × (writer.old.stopped ≡ None) }
+        requires knows { WriterKnows ((number, length found.parcel.docs) ∷ []) writer.old × (writer.old.stopped ≡ None) }
         requires seat { IsSeated (option_copied self.now.board) writer.old.seat }
         ensures same { writer.new.parcels ≡ writer.old.parcels }
         ensures knows { WriterKnows [] writer.new }
         ensures halted { IfSome writer.new.stopped
             (AllowsOn (MayFill (option_copied self.now.board)) (G.may_stop self.now.gate.now)) }
         ensures full { IfSome writer.new.stopped
-            (SaysFull (writer.old.got ≡ 2 ^ 64 - 1) (IsFullFor (length found.docs) writer.old.seat)) }
+            (SaysFull (writer.old.got ≡ 2 ^ 64 - 1) (IsFullFor (length found.parcel.docs) writer.old.seat)) }
         ensures seat { IsSeated (option_copied self.now.board) writer.new.seat }
         ensures shows { (given : Option BoardSeat) → WriterShows (option_copied self.now.board) given writer.old
             → WriterShows (option_copied self.now.board) given writer.new }

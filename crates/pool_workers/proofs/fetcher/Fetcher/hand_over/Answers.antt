@@ -10,7 +10,7 @@ put-requires-clause-part g c = let e = ap (λ (y : ParcelView). y.parts) c.requi
 pub returns-then-put-clause-knows : goal.returns-then-put-clause-knows
 returns-then-put-clause-knows g c =
     let k = c.requires.counted in
-    let s : SentOne (view c.args.self.now.parcels) (c.args.number, length c.args.fetched.docs) (view c.put.new.pass) =
+    let s : SentOne (view c.args.self.now.parcels) (c.args.number, length c.args.fetched.parcel.docs) (view c.put.new.pass) =
     sent_one _ _ _ k.1 (search rules) in (
       k.0,
       s.0,

@@ -1,4 +1,4 @@
-use Rattle.proof_prelude.proofs.{length, sym, ap, ◌∙◌, subst, same_Some, Option, IfSome}
+use Rattle.proof_prelude.proofs.{◌≡◌, eq-eqb, is_some, length, ne_eqb, sym, ap, ◌∙◌, subst, same_Some, Option, IfSome}
 use Rattle.couch_base.specs.{DatabaseValue}
 use Rattle.pool_workers.proofs.{unchanged}
 use Rattle.pool_workers.proofs.given_target.GivenTarget.of.Goals as goal
@@ -16,3 +16,12 @@ invariant_of-result g c = record {
         | else-update_seq-eq0 w ↦ absurd (subst (λ (o : Option DatabaseValue). IfSome o (λ _. ⊥)) (sym w.none-is ∙ e) tt)
       ];
 }
+
+pub returns : goal.returns
+returns g c =
+    let seq : c.update_seq.result ≡ c.args.target.now.1.db.update_seq =
+    c.update_seq.ensures.seq ∙ ap (λ (db : DatabaseValue). db.update_seq) c.db-db.ensures.value in
+    elim c.if-update_seq-eq0.branch [
+      | then-update_seq-eq0 w ↦ ap is_some w.none-is ∙ sym (eq-eqb _ _ (sym seq ∙ w.if-update_seq-eq0.true))
+      | else-update_seq-eq0 w ↦ ap is_some w.none-is ∙ sym (ne_eqb _ _ (λ e. w.if-update_seq-eq0.false (seq ∙ e)))
+    ]
