@@ -1,4 +1,7 @@
 pub mod Shown
+pub mod Branches
+pub mod Ancestries
+pub mod Shapes
 pub mod Ink
 pub mod Tallies
 pub mod Drawing

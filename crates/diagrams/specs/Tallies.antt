@@ -1,5 +1,5 @@
 -- Defines how the lines of a script's output are counted, as specified in docs/PROFILE.md, "Pictures".
-use Rattle.std.specs.Prelude.{ℕ, ◌==◌, if◌then◌else◌}
+use Rattle.std.specs.Prelude.{◌==◌, if◌then◌else◌}
 use Rattle.script_engine.specs.Device.{counted}
 use Rattle.output_parser.specs.declared.told.Told.{Told}
 use Rattle.output_parser.specs.declared.told.Told.TheVariants as told

@@ -1,267 +1,309 @@
 //! Stores the ancestries of a document's leaves. A common part of two ancestries is stored once.
-ghost use Rattle.std.specs.Prelude.{◌<◌, length};
+ghost use Rattle.std.specs.Prelude.{◌≡◌, ◌<◌, ◌≤◌, [], None, Option, Some, true, IfOk, IfSome, get_or, if◌then◌else◌, length, nat_lt, option_copied, slice_get, take};
+ghost use Rattle.diagrams.specs.Branches.{AreLinked, count_of};
 
 use indexmap::IndexMap;
 use rev_core::Rev;
 use std::alloc::{AllocError, Global};
 use std::cmp::Ordering;
 
-/// A revision in an ancestry, given by a branch and by the revision's position in the branch.
+/// A revision of a stored ancestry.
 #[derive(Clone, Copy, Debug, PartialEq, Eq, Hash)]
 pub struct Point {
     /// The index of the revision's branch.
     branch: usize,
-    /// The position of this revision in its branch, counted from 1.
+    /// The number of revisions of the ancestry, from the oldest revision to this revision.
     count: usize,
 }
 
-/// A branch, which consists of consecutive revisions of an ancestry.
-#[derive(Drop)]
-struct Branch {
+/// The start of a branch. No two branches have the same start.
+#[derive(PartialEq, Eq, Hash, Drop)]
+pub struct Start {
     /// The parent of the branch's first revision, if the parent is known.
     from: Option<Point>,
-    /// The revisions of the branch, oldest first. A branch has at least one revision.
-    revs: Vec<Rev>,
-}
-
-/// The parent and the first revision of a branch.
-#[derive(PartialEq, Eq, Hash, Drop)]
-struct Start {
-    from: Option<Point>,
+    /// The branch's first revision.
     rev: Rev,
 }
 
-/// A set of ancestries, in which each common part is stored once. The first branch is the ancestry that was added
-/// first.
+/// A set of ancestries. A branch consists of consecutive revisions of an ancestry. An ancestry begins with the
+/// ancestry of its branch's parent, and ends in the branch.
 #[derive(Drop)]
 pub struct Ancestries {
-    branches: Vec<Branch>,
-    /// The index of each branch except the first. The key is the branch's parent and its first revision.
-    starts: Option<Box<IndexMap<Start, usize>>>,
+    /// The revisions of each branch after the first revision, oldest first.
+    branches: IndexMap<Start, Vec<Rev>>,
+    ghost linked: { AreLinked branches.entries },
 }
 
-/// The state of a traversal of an ancestry, which begins with the ancestry's newest revision and ends after the oldest
-/// revision.
-#[derive(Clone, Copy)]
-struct Climb {
-    /// The revision that the traversal of an ancestry has reached, or `None` after the oldest revision.
-    at: Option<Point>,
-    /// The branch that the traversal of an ancestry has left most recently, or `None` in the traversal's first branch.
-    left: Option<usize>,
-}
-
-impl Climb {
-    /// Returns the index of the branch that has the revision `at`, plus 1. Returns 0 if `at` is `None`.
-    fn height(&self) -> usize {
-        match self.at {
-            Some(point) => point.branch.saturating_add(1),
-            None => 0,
-        }
-    }
-
-    /// Returns the index of the branch that has the revision `at`, or 0 if `at` is `None`.
-    fn branch(&self) -> usize {
-        match self.at {
-            Some(point) => point.branch,
-            None => 0,
-        }
-    }
-
-    /// Returns the position of the revision `at` in its branch, counted from 1, or 0 if `at` is `None`.
-    fn count(&self) -> usize {
-        match self.at {
-            Some(point) => point.count,
-            None => 0,
-        }
+/// Returns the number of revisions of the ancestry that ends with the revision `at`, or 0 if `at` is `None`.
+fn count_of(at: Option<Point>) -> usize
+    ensures { result ≡ count_of at }
+{
+    match at {
+        Some(point) => point.count,
+        None => 0,
     }
 }
 
 impl Ancestries {
+    ghost use Rattle.std.specs.Ordering.{eq_by_cmp};
+    ghost use Rattle.std.specs.Cmp.Lexicographic.{slice_cmp};
+    ghost use Rattle.rev_core.specs.Rev.{RevId, rev_cmp};
+    ghost use Rattle.diagrams.specs.Branches.{Extends, Follows, IsWithin, end_at, from_of, path_of};
+    ghost use Rattle.diagrams.specs.Ancestries.{IsStored, Keeps, ancestor_in, ancestry_of, newest_generation, shared_count};
+
     /// Creates an empty set of ancestries.
-    pub fn new(alloc: Global) -> Ancestries {
+    pub fn new(alloc: Global) -> Ancestries
+        ensures { (at : Option Point) → ancestry_of result at ≡ [] }
+    {
         Ancestries {
-            branches: Vec::new(alloc),
-            starts: None,
+            branches: IndexMap::new(alloc),
         }
     }
 
     /// Adds an ancestry, which is given with the oldest revision first. Returns the newest revision of the ancestry, or
     /// `None` if the ancestry is empty.
-    pub fn add(&mut self, alloc: Global, revs: &[Rev]) -> Result<Option<Point>, AllocError> {
+    pub fn add(&mut self, alloc: Global, revs: &[Rev]) -> Result<Option<Point>, AllocError>
+        ensures path { IfOk result (λ at. ancestry_of self.new at ≡ revs.now) }
+        ensures stored { IfOk result (λ at. IsStored self.new at) }
+        ensures keeps { Keeps self.old self.new }
+    {
         let mut at = None;
         for i in 0..revs.len() {
-            let Some(point) = self.after(at, &revs[i]) else {
-                return self.branch_off(alloc, at, &revs[i..]);
-            };
-            at = Some(point);
+            let branch = self.branch_after(alloc, at, &revs[i..])?;
+            at = Some(Point {
+                branch,
+                count: i + 1,
+            });
         }
         Ok(at)
     }
 
-    /// Looks for a stored revision `rev` whose parent is at the position `at`, and returns the position of `rev`. If
-    /// `at` is `None`, the call looks for a stored ancestry with the oldest revision `rev`.
-    fn after(&self, at: Option<Point>, rev: &Rev) -> Option<Point> {
-        let (branch, count) = match at {
-            Some(point) => (point.branch, point.count),
-            None => (0, 0),
-        };
-        if let Some(next) = self.rev_at(branch, count) {
-            if *next == *rev {
-                return Some(Point {
-                    branch,
-                    count: count.saturating_add(1),
-                });
-            }
-        }
-        self.start_at(at, rev)
-    }
-
-    /// Looks in `starts` for the branch with the parent `from` and the first revision `rev`, and returns the position
-    /// of `rev`.
-    fn start_at(&self, from: Option<Point>, rev: &Rev) -> Option<Point> {
-        let starts = self.starts.as_ref()?;
-        let branch = starts.get(&Start { from, rev: *rev })?;
-        Some(Point {
-            branch: *branch,
-            count: 1,
-        })
-    }
-
-    /// Adds a branch that is not empty, and returns the branch's newest revision.
-    fn branch_off(
+    /// Finds the branch that has the first of the revisions `revs` directly after the revision `at`. If there is no
+    /// such branch, the call adds a branch with all revisions of `revs`.
+    fn branch_after(
         &mut self,
         alloc: Global,
-        from: Option<Point>,
+        at: Option<Point>,
         revs: &[Rev],
-    ) -> Result<Option<Point>, AllocError>
-        requires { 0 < length revs.now }
+    ) -> Result<usize, AllocError>
+        requires some { 0 < length revs.now }
+        requires within { IfSome at (λ p. IsWithin self.old.branches.entries (length self.old.branches.entries) p) }
+        ensures follows { IfOk result (λ i. (r : RevId) → slice_get revs.now 0 ≡ Some r → Follows self.new.branches.entries at r i) }
+        ensures extends { Extends self.old.branches.entries self.new.branches.entries }
     {
-        let mut kept = Vec::with_capacity(alloc, revs.len())?;
-        kept.extend_from_slice(revs)?;
+        if let Some(branch) = self.same_branch(at, &revs[0]) {
+            return Ok(branch);
+        }
+        let start = Start {
+            from: at,
+            rev: revs[0],
+        };
+        if let Some(branch) = self.branches.get_index_of(&start) {
+            return Ok(branch);
+        }
+        let rest = Vec::from_slice(alloc, &revs[1..])?;
         let branch = self.branches.len();
-        if branch > 0 {
-            let mut starts = match self.starts.take() {
-                Some(starts) => starts,
-                None => Box::new(alloc, IndexMap::new(alloc))?,
-            };
-            starts.insert(Start { from, rev: revs[0] }, branch)?;
-            self.starts = Some(starts);
-        }
-        self.branches.push(Branch { from, revs: kept })?;
-        Ok(Some(Point {
-            branch,
-            count: revs.len(),
-        }))
+        self.branches.insert(start, rest)?;
+        Ok(branch)
     }
 
-    /// Returns the revision that follows the first `count` revisions of a branch.
-    fn rev_at(&self, branch: usize, count: usize) -> Option<&Rev> {
-        match self.branches.as_slice().get(branch) {
-            Some(branch) => branch.revs.as_slice().get(count),
-            None => None,
-        }
-    }
-
-    /// Returns the revision with the given generation from an ancestry. The newest revision of the ancestry is at the
-    /// position `last`.
-    pub fn ancestor(&self, last: Option<Point>, generation: u32) -> Option<&Rev> {
-        let mut next = last;
-        for _ in 0..self.branches.len() {
-            let point = next?;
-            let first = self.rev_at(point.branch, 0)?.generation();
-            if generation >= first {
-                let before = (generation - first) as usize;
-                if before >= point.count {
-                    return None;
-                }
-                return self.rev_at(point.branch, before);
-            }
-            next = self.from(point.branch);
+    /// Returns the branch of the revision `at` if this branch has the revision `rev` directly after the revision `at`.
+    fn same_branch(&self, at: Option<Point>, rev: &Rev) -> Option<usize>
+        ensures { IfSome result (λ i. Follows self.now.branches.entries at rev.now i) }
+    {
+        let Some(point) = at else {
+            return None;
+        };
+        if self.has_at(point.branch, point.count, rev) {
+            return Some(point.branch);
         }
         None
     }
 
+    /// Whether a branch has the revision `rev` at an index of its ancestry.
+    fn has_at(&self, branch: usize, index: usize, rev: &Rev) -> bool
+        ensures { result ≡ true → slice_get (end_at self.now.branches.entries branch) index ≡ Some rev.now }
+    {
+        match self.rev_in(branch, index) {
+            Some(there) => *there == *rev,
+            None => false,
+        }
+    }
+
     /// Returns the parent of a branch's first revision.
-    fn from(&self, branch: usize) -> Option<Point> {
-        match self.branches.as_slice().get(branch) {
-            Some(branch) => branch.from,
+    fn from(&self, branch: usize) -> Option<Point>
+        ensures { result ≡ from_of self.now.branches.entries branch }
+    {
+        match self.branches.get_index(branch) {
+            Some((start, _)) => start.from,
             None => None,
         }
     }
 
-    /// Returns the number of revisions that two ancestries share, beginning with the oldest revision. The revision
-    /// `one` or the revision `other` must be in the ancestry that was added first.
-    pub fn shared(&self, one: Option<Point>, other: Option<Point>) -> usize {
-        let (one, other) = self.fork(one, other);
-        one.count().min(other.count())
+    /// Returns the revision with an index in the ancestry of a branch's newest revision, if the branch stores this
+    /// revision. The oldest revision of an ancestry has the index 0.
+    fn rev_in(&self, branch: usize, index: usize) -> Option<&Rev>
+        ensures { option_copied result ≡
+            (if nat_lt index (count_of (from_of self.now.branches.entries branch)) then None
+            else slice_get (end_at self.now.branches.entries branch) index) }
+    {
+        let Some((start, rest)) = self.branches.get_index(branch) else {
+            return None;
+        };
+        let before = count_of(start.from);
+        if index < before {
+            return None;
+        }
+        if index == before {
+            return Some(&start.rev);
+        }
+        rest.as_slice().get(index - before - 1)
+    }
+
+    /// Returns the branch that stores the revision with an index in the ancestry of a branch's newest revision.
+    fn owner(&self, branch: usize, index: usize) -> usize
+        ensures stores { count_of (from_of self.now.branches.entries result) ≤ index }
+        ensures same { slice_get (end_at self.now.branches.entries result) index
+            ≡ slice_get (end_at self.now.branches.entries branch) index }
+    {
+        let mut owner = branch;
+        while let Some(parent) = self.from(owner) {
+            if parent.count <= index {
+                return owner;
+            }
+            owner = parent.branch;
+        }
+        owner
+    }
+
+    /// Returns the revision with an index in an ancestry. The newest revision of the ancestry is `last`, and the oldest
+    /// revision has the index 0.
+    fn rev(&self, last: Option<Point>, index: usize) -> Option<&Rev>
+        ensures { option_copied result ≡ slice_get (ancestry_of self.now last) index }
+    {
+        let Some(point) = last else {
+            return None;
+        };
+        if index >= point.count {
+            return None;
+        }
+        self.rev_in(self.owner(point.branch, index), index)
+    }
+
+    /// Returns the revision with the given generation from an ancestry. The newest revision of the ancestry is `last`.
+    /// Each generation of the ancestry must be one above the previous revision's generation. In any other ancestry, the
+    /// call counts generations from the oldest revision.
+    pub fn ancestor(&self, last: Option<Point>, generation: u32) -> Option<&Rev>
+        ensures { option_copied result ≡ ancestor_in (ancestry_of self.now last) generation }
+    {
+        let Some(first) = self.rev(last, 0) else {
+            return None;
+        };
+        let oldest = first.generation();
+        if generation < oldest {
+            return None;
+        }
+        self.rev(last, (generation - oldest) as usize)
+    }
+
+    /// Returns the number of revisions of the ancestry with the newest revision `last`.
+    fn count(&self, last: Point) -> usize
+        ensures { result ≡ length (ancestry_of self.now (Some last)) }
+    {
+        match self.branches.get_index(last.branch) {
+            Some((start, rest)) => {
+                let before = count_of(start.from);
+                let count = before.saturating_add(1).saturating_add(rest.len());
+                count.min(last.count)
+            }
+            None => 0,
+        }
+    }
+
+    /// Returns a number of revisions that two ancestries share, beginning with the oldest revision: the number of common
+    /// revisions up to the newest branch that has revisions of both ancestries. In practice the ancestries share no
+    /// further revision, because `add` looks for a stored revision before it adds a branch.
+    fn joined(&self, one: Point, other: Point) -> usize
+        ensures same { take result (ancestry_of self.now (Some one)) ≡ take result (ancestry_of self.now (Some other)) }
+        ensures one { result ≤ length (ancestry_of self.now (Some one)) }
+        ensures other { result ≤ length (ancestry_of self.now (Some other)) }
+    {
+        let mut count = self.count(one).min(self.count(other));
+        let mut one = one.branch;
+        let mut other = other.branch;
+        while one != other {
+            let Some(parent) = self.from(one.max(other)) else {
+                return 0;
+            };
+            count = count.min(parent.count);
+            if one > other {
+                one = parent.branch;
+            } else {
+                other = parent.branch;
+            }
+        }
+        count
+    }
+
+    /// Returns the number of revisions that two ancestries share, beginning with the oldest revision.
+    pub fn shared(&self, one: Option<Point>, other: Option<Point>) -> usize
+        ensures { result ≡ shared_count (ancestry_of self.now one) (ancestry_of self.now other) }
+    {
+        match (one, other) {
+            (Some(one), Some(other)) => self.shared_by(one, other),
+            _ => 0,
+        }
+    }
+
+    /// Returns the number of revisions that two ancestries share, beginning with the oldest revision.
+    fn shared_by(&self, one: Point, other: Point) -> usize
+        ensures { result ≡ shared_count (ancestry_of self.now (Some one)) (ancestry_of self.now (Some other)) }
+    {
+        let end = self.count(one).min(self.count(other));
+        for index in self.joined(one, other)..end {
+            if !self.is_shared(one, other, index) {
+                return index;
+            }
+        }
+        end
+    }
+
+    /// Whether two ancestries have the same revision at an index.
+    fn is_shared(&self, one: Point, other: Point, index: usize) -> bool
+        requires one { index < length (ancestry_of self.now (Some one)) }
+        requires other { index < length (ancestry_of self.now (Some other)) }
+        ensures { (r : RevId) → result ≡ eq_by_cmp rev_cmp
+            (get_or (ancestry_of self.now (Some one)) index r) (get_or (ancestry_of self.now (Some other)) index r) }
+    {
+        match (self.rev(Some(one), index), self.rev(Some(other), index)) {
+            (Some(one), Some(other)) => *one == *other,
+            _ => false,
+        }
     }
 
     /// Returns the generation of the last revision that two ancestries share, or 0 if they share no revision.
-    pub fn last_shared(&self, one: Option<Point>, other: Option<Point>) -> u32 {
-        let (one, other) = self.fork(one, other);
-        let count = one.count().min(other.count());
+    pub fn last_shared(&self, one: Option<Point>, other: Option<Point>) -> u32
+        ensures { let path = ancestry_of self.now one in
+            result ≡ newest_generation (take (shared_count path (ancestry_of self.now other)) path) }
+    {
+        let count = self.shared(one, other);
         if count == 0 {
             return 0;
         }
-        match self.rev_at(one.branch(), count - 1) {
+        match self.rev(one, count - 1) {
             Some(rev) => rev.generation(),
             None => 0,
         }
     }
 
     /// Compares two ancestries revision by revision, beginning with the oldest revisions.
-    pub fn order(&self, one: Option<Point>, other: Option<Point>) -> Ordering {
+    pub fn order(&self, one: Option<Point>, other: Option<Point>) -> Ordering
+        ensures { result ≡ slice_cmp rev_cmp (ancestry_of self.now one) (ancestry_of self.now other) }
+    {
         if one == other {
             return Ordering::Equal;
         }
-        let (one, other) = self.fork(one, other);
-        let count = one.count().min(other.count());
-        self.next(one, count).cmp(&self.next(other, count))
-    }
-
-    /// Traverses two ancestries from newer to older revisions, until both traversals are in one branch or both have
-    /// ended. While the branches differ, the call continues the traversal whose branch was stored later. A branch is
-    /// always stored after the branch that has its parent.
-    fn fork(&self, one: Option<Point>, other: Option<Point>) -> (Climb, Climb) {
-        let mut one = Climb {
-            at: one,
-            left: None,
-        };
-        let mut other = Climb {
-            at: other,
-            left: None,
-        };
-        for _ in 0..self.branches.len().saturating_mul(2) {
-            if one.height() == other.height() {
-                break;
-            }
-            if one.height() > other.height() {
-                one = self.climbed(one);
-            } else {
-                other = self.climbed(other);
-            }
-        }
-        (one, other)
-    }
-
-    /// Moves the traversal `climb` out of its current branch, and returns the traversal. The traversal is then at the
-    /// parent of the branch's first revision.
-    fn climbed(&self, climb: Climb) -> Climb {
-        match climb.at {
-            Some(point) => Climb {
-                at: self.from(point.branch),
-                left: Some(point.branch),
-            },
-            None => climb,
-        }
-    }
-
-    /// Returns the revision after the first `count` revisions of the branch that `climb` has reached. The returned
-    /// revision is in this branch, or is the first revision of the branch that `climb` has left last.
-    fn next(&self, climb: Climb, count: usize) -> Option<&Rev> {
-        if climb.count() > count {
-            return self.rev_at(climb.branch(), count);
-        }
-        self.rev_at(climb.left?, 0)
+        let count = self.shared(one, other);
+        self.rev(one, count).cmp(&self.rev(other, count))
     }
 }

@@ -2,6 +2,8 @@
 //! generation at which a leaf's row begins, ends or forks has its own column in the diagram. Consecutive generations at
 //! which no row begins, ends or forks share one column.
 
+ghost use Rattle.std.specs.Prelude.{◌≡◌, ◌==◌, ◌||◌, ◌+◌, ◌-◌, ◌^◌, decimal, if◌then◌else◌, length};
+
 use crate::ancestries::Ancestries;
 use crate::document::Leaf;
 use crate::rows::Row;
@@ -49,7 +51,9 @@ fn kept_of(alloc: Global, leaves: &[Leaf], rows: &[Row]) -> Result<Vec<u32>, All
 }
 
 /// Returns the generation of the oldest revision in a leaf's row of the diagram.
-pub fn start_of(leaf: &Leaf, row: &Row) -> u32 {
+pub fn start_of(leaf: &Leaf, row: &Row) -> u32
+    ensures { result ≡ (if row.now.hang == 0 || row.now.hang == 2 ^ 32 - 1 then leaf.now.oldest else row.now.hang + 1) }
+{
     if row.hang == 0 || row.hang == u32::MAX {
         return leaf.oldest;
     }
@@ -95,11 +99,15 @@ fn width_of(ancestries: &Ancestries, leaves: &[Leaf], low: u32, high: u32) -> us
 }
 
 /// Returns the number of generations from `low` to `high`, which share one column of a diagram.
-pub fn folded(low: u32, high: u32) -> u64 {
+pub fn folded(low: u32, high: u32) -> u64
+    ensures { result ≡ high - low + 1 }
+{
     u64::from(high).saturating_sub(u64::from(low)) + 1
 }
 
 /// Returns the length of a column's text for `count` generations. For 12 generations, the text is `12 more`.
-pub fn folded_len(count: u64) -> usize {
+pub fn folded_len(count: u64) -> usize
+    ensures { result ≡ length (decimal count) + 5 }
+{
     digits(count) + 5
 }

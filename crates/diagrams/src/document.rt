@@ -1,6 +1,7 @@
 //! A document that was read from the output of `show` or `conflicts`.
-ghost use Rattle.std.specs.Prelude.{◌≡◌, ◌==◌, [], OnOk, IsPermutation, length, nat_le, string_bytes, vec_len};
+ghost use Rattle.std.specs.Prelude.{◌≡◌, ◌==◌, [], OnOk, IsPermutation, IsSorted, length, nat_le, string_bytes, vec_len};
 ghost use Rattle.diagrams.specs.Drawing.{Holds, states, with_leaf};
+ghost use Rattle.diagrams.specs.Shapes.{AddsLeaf, apart_of, leaf_cmp};
 
 use crate::ancestries::{Ancestries, Point};
 use rev_core::Rev;
@@ -28,7 +29,9 @@ pub struct Leaf {
 
 impl Leaf {
     /// The generation.
-    pub fn generation(&self) -> u32 {
+    pub fn generation(&self) -> u32
+        ensures { result ≡ self.now.rev.generation }
+    {
         self.rev.generation()
     }
 }
@@ -37,7 +40,9 @@ impl Leaf {
 /// with the winner come first. Leaves that share the same number of revisions with the winner are ordered by their
 /// ancestors, beginning with the oldest ancestor. In a picture of a document, all leaves that share a revision are
 /// adjacent.
-fn order_of(ancestries: &Ancestries, one: &Leaf, other: &Leaf) -> Ordering {
+fn order_of(ancestries: &Ancestries, one: &Leaf, other: &Leaf) -> Ordering
+    ensures { result ≡ leaf_cmp ancestries.now one.now other.now }
+{
     if one.apart != other.apart {
         return one.apart.cmp(&other.apart);
     }
@@ -88,6 +93,7 @@ impl Document {
     pub fn add(&mut self, alloc: Global, leaf: Leaf, before: &[Rev]) -> Result<(), AllocError>
         ensures holds { OnOk result (Holds self.new (string_bytes self.old.id) (with_leaf (states self.old) leaf.rev leaf.live)) }
         ensures count { OnOk result (self.new.count ≡ self.old.count) }
+        ensures adds { OnOk result (AddsLeaf self.old self.new leaf before.now) }
     {
         let parent = self.ancestries.add(alloc, before)?;
         let leaf = self.placed(leaf, parent);
@@ -100,6 +106,9 @@ impl Document {
         ensures rev { result.rev ≡ leaf.rev }
         ensures live { result.live ≡ leaf.live }
         ensures wins { result.wins ≡ (length self.now.leaves.items == 0) }
+        ensures apart { result.apart ≡ apart_of self.now.ancestries self.now.leaves.items parent }
+        ensures parent { result.parent ≡ parent }
+        ensures oldest { result.oldest ≡ leaf.oldest }
     {
         let leaves = self.leaves.as_slice();
         if leaves.is_empty() {
@@ -123,6 +132,8 @@ impl Document {
     pub fn sort(&mut self) -> Result<(), AllocError>
         ensures leaves { IsPermutation (states self.old) (states self.new) }
         ensures id { self.new.id ≡ self.old.id }
+        ensures ancestries { self.new.ancestries ≡ self.old.ancestries }
+        ensures sorted { OnOk result (IsSorted (leaf_cmp self.new.ancestries) self.new.leaves.items) }
     {
         let ancestries = &self.ancestries;
         self.leaves

@@ -1,6 +1,6 @@
 //! Draws the findings of `compare`, and the lines of numbers that `compare`, `info` or `replicate` prints.
 
-ghost use Rattle.std.specs.Prelude.{◌≡◌, ◌≤◌, ◌++◌, ◌∷◌, [], OnOk, get_or, map, string_bytes};
+ghost use Rattle.std.specs.Prelude.{◌≡◌, ◌≤◌, ◌+◌, ◌*◌, ◌^◌, ◌++◌, ◌∷◌, [], OnOk, get_or, map, max, min, string_bytes, string_len, vec_len};
 ghost use Rattle.diagrams.specs.declared.form.Form.TheVariants.{Svg, Text};
 ghost use Rattle.diagrams.specs.Ink.{Draws, bar, bars_of, caption, count, counts_of, found, heading, listed, ratio, share, signs_of_found, signs_of_row, table_text};
 
@@ -101,7 +101,10 @@ fn number_at(numbers: &[u64], place: usize) -> u64
 // ---- positions
 
 /// Returns the size of the drawing for a line of `compare`.
-pub fn extent_of_found(found: &Found) -> Extent {
+pub fn extent_of_found(found: &Found) -> Extent
+    ensures width { result.width ≡ min (string_len found.now.id) (2 ^ 32) * 9 + (min (vec_len found.now.revs) (2 ^ 32) * 140 + 60) }
+    ensures height { result.height ≡ 24 }
+{
     Extent {
         width: width_of(found.id.as_str()).saturating_add(
             (found.revs.len() as u64).min(1 << 32) * 140 + 60,
@@ -111,7 +114,11 @@ pub fn extent_of_found(found: &Found) -> Extent {
 }
 
 /// Returns the size of the drawing for a line of numbers.
-pub fn extent_of_row(row: &Row) -> Extent {
+pub fn extent_of_row(row: &Row) -> Extent
+    ensures width { result.width ≡ max (min (string_len row.now.name) (2 ^ 32) * 9) 900 }
+    ensures info { row.now.table ≡ Table.Info → result.height ≡ 54 }
+    ensures other { (row.now.table ≡ Table.Info → ⊥) → result.height ≡ 84 }
+{
     Extent {
         width: width_of(row.name.as_str()).max(900),
         height: if row.table == Table::Info { 54 } else { 84 },

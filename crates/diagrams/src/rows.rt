@@ -1,7 +1,8 @@
 //! Computes the rows of a document's drawing. Each leaf of the document has one row, which shows the leaf's ancestry.
 //! In a drawing, each row except the first may branch off an earlier row.
 
-ghost use Rattle.std.specs.Prelude.{◌≡◌, IfOk, length, vec_len};
+ghost use Rattle.std.specs.Prelude.{◌≡◌, ◌==◌, IfOk, length, vec_len};
+ghost use Rattle.std.specs.List.{list_any};
 
 use crate::ancestries::Ancestries;
 use crate::document::Leaf;
@@ -32,7 +33,9 @@ struct Branch {
 
 impl Row {
     /// Whether a vertical edge leads from this row to the next row at the given generation.
-    pub fn is_open(&self, generation: u32) -> bool {
+    pub fn is_open(&self, generation: u32) -> bool
+        ensures { result ≡ list_any (λ g. g == generation) self.now.below.items }
+    {
         self.below.contains(&generation)
     }
 }

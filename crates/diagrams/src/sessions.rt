@@ -1,6 +1,6 @@
 //! Draws logs as bar charts of their sessions.
 
-ghost use Rattle.std.specs.Prelude.{◌≡◌, ◌++◌, ◌∷◌, [], OnOk, string_bytes};
+ghost use Rattle.std.specs.Prelude.{◌≡◌, ◌+◌, ◌-◌, ◌*◌, ◌^◌, ◌++◌, ◌∷◌, [], OnOk, max, min, string_bytes, string_len, vec_len};
 ghost use Rattle.std.specs.List.{flat_map};
 ghost use Rattle.diagrams.specs.declared.form.Form.TheVariants.{Svg, Text};
 ghost use Rattle.diagrams.specs.Ink.{Draws, chart, log, moment, most_from, signs_of_log, signs_of_session};
@@ -79,7 +79,10 @@ fn draw_session(
 // ---- positions
 
 /// Returns the size of the drawing of a log.
-pub fn extent_of(log: &Log) -> Extent {
+pub fn extent_of(log: &Log) -> Extent
+    ensures width { result.width ≡ max (min (string_len log.now.id) (2 ^ 32) * 9) 1240 }
+    ensures height { result.height ≡ min (vec_len log.now.entries) (2 ^ 32) * ROW + (2 * ROW + 6) }
+{
     Extent {
         width: width_of(log.id.as_str()).max(1240),
         height: height_of(ROW, log.entries.len()).saturating_add(6),
@@ -87,7 +90,9 @@ pub fn extent_of(log: &Log) -> Extent {
 }
 
 /// Returns the height at which a session is drawn, given the session's index and the height at which the log is drawn.
-fn height_of(height: u64, place: usize) -> u64 {
+fn height_of(height: u64, place: usize) -> u64
+    ensures { result ≡ min (height + (min place (2 ^ 32) * ROW + ROW)) (2 ^ 64 - 1) }
+{
     height.saturating_add((place as u64).min(1 << 32) * ROW + ROW)
 }
 

@@ -1,5 +1,5 @@
 //! The drawing operations for each kind of item in a picture.
-ghost use Rattle.std.specs.Prelude.{◌≡◌, ◌++◌, ◌∷◌, ◌<◌, [], OnOk, string_bytes, decimal, encode_utf8_all, chars, take};
+ghost use Rattle.std.specs.Prelude.{◌≡◌, ◌++◌, ◌∷◌, ◌<◌, [], OnOk, string_bytes, decimal, encode_utf8_all, chars, length, take};
 ghost use Rattle.std.specs.Char.{digit_char};
 ghost use Rattle.rev_core.specs.Text.{rev_text};
 ghost use Rattle.diagrams.specs.declared.form.Form.TheVariants.{Svg, Text};
@@ -133,13 +133,16 @@ fn short_sig(rev: &Rev) -> &[u8]
 }
 
 /// Returns the number of characters of a revision's short id.
-pub fn short_len(rev: &Rev) -> usize {
+pub fn short_len(rev: &Rev) -> usize
+    ensures { result ≡ length (short_text rev.now) }
+{
     digits(u64::from(rev.generation())) + 1 + short_sig(rev).len()
 }
 
 /// Returns the number of digits of a number.
 pub fn digits(mut number: u64) -> usize
-    ensures { result < 21 }
+    ensures text { result ≡ length (decimal number) }
+    ensures few { result < 21 }
 {
     let mut count = 1;
     for step in 0..19u8 {

@@ -1,6 +1,6 @@
 //! Draws a document in SVG.
 
-ghost use Rattle.std.specs.Prelude.{◌≡◌, ◌∷◌, [], None, OnOk, length, map, string_bytes};
+ghost use Rattle.std.specs.Prelude.{◌≡◌, ◌+◌, ◌-◌, ◌*◌, ◌^◌, ◌∷◌, [], None, OnOk, length, map, max, min, string_bytes};
 ghost use Rattle.diagrams.specs.declared.form.Form.TheVariants.{Svg};
 ghost use Rattle.diagrams.specs.Ink.{Draws, leaf_sign, signs_of, title};
 
@@ -33,7 +33,10 @@ pub struct Extent {
 
 impl Extent {
     /// Returns the combined size of two items that are drawn one below the other.
-    pub fn with_below(self, below: Extent) -> Extent {
+    pub fn with_below(self, below: Extent) -> Extent
+        ensures width { result.width ≡ max self.width below.width }
+        ensures height { result.height ≡ min (self.height + below.height) (2 ^ 64 - 1) }
+    {
         Extent {
             width: self.width.max(below.width),
             height: self.height.saturating_add(below.height),
@@ -42,17 +45,23 @@ impl Extent {
 }
 
 /// Returns the width that the picture reserves for a text.
-pub fn width_of(text: &str) -> u64 {
+pub fn width_of(text: &str) -> u64
+    ensures { result ≡ min (length text.now) (2 ^ 32) * 9 }
+{
     (text.len() as u64).min(1 << 32) * 9
 }
 
 /// Returns the horizontal coordinate of a column's center.
-fn x_of(place: usize) -> u64 {
+fn x_of(place: usize) -> u64
+    ensures { result ≡ min place (2 ^ 32) * COLUMN + LEFT }
+{
     (place as u64).min(1 << 32) * COLUMN + LEFT
 }
 
 /// Returns the vertical coordinate of a row's center.
-fn y_of(place: usize) -> u64 {
+fn y_of(place: usize) -> u64
+    ensures { result ≡ min place (2 ^ 32) * ROW + TOP }
+{
     (place as u64).min(1 << 32) * ROW + TOP
 }
 
