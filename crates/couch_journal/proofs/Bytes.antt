@@ -1,7 +1,6 @@
 -- The bytes that went through the reader and the writer of a task.
 use Rattle.std.specs.Prelude.{IsSomeAnd}
-use Rattle.proof_prelude.proofs.{None, Some, ◌≡◌, inr, ℕ, List, [], ◌++◌, Bool, true, false, Option, Result, Ok, Err, OnOk, OnErr, IfOk, IfErr, Appends, Appends-nil, refl, sym, subst, ◌∙◌}
-use Rattle.line_reader.specs.{HasDone, HasStopped, Steps}
+use Rattle.proof_prelude.proofs.{None, Some, ◌≡◌, inr, ℕ, List, [], ◌++◌, Bool, true, false, Option, Result, Ok, Err, OnErr, IfOk, IfErr, Appends, Appends-nil, refl, sym, subst, ◌∙◌}
 use Rattle.script_engine.specs.{ScriptFault}
 use Rattle.script_engine.specs.Device.{FailsOnce}
 use Rattle.journal_responses.specs.declared.said.Said.{Said}
@@ -24,12 +23,6 @@ use Rattle.journal_responses.specs.Refusals.{any_refused, refused_text}
 -- no byte went through
 pub nothing_passed : (taken held : Option (List ℕ)) → (input : List ℕ) × (text : List ℕ) × Appends taken taken input × Appends held held text
 nothing_passed taken held = ([], [], Appends-nil taken, Appends-nil held)
-
--- a task ran over the lines, or an error stopped it
-pub bytes_passed : {S T E : Type 0} (steps ends : Steps S) (start new : S) (all : Type 0) (taken taken' held held' : Option (List ℕ)) (r : Result T E) → OnOk r (HasDone steps ends start taken taken' held new held') → OnErr r (HasStopped steps ends start all taken taken' held held')
-    → (input : List ℕ) × (text : List ℕ) × Appends taken taken' input × Appends held held' text
-bytes_passed steps ends start new all taken taken' held held' (Ok u) d s = (d.input, d.text ++ d.last_text, d.gives, d.written)
-bytes_passed steps ends start new all taken taken' held held' (Err e) d s = (s.2.input, s.2.text ++ s.2.front, s.2.gives, s.2.written)
 
 -- a value that satisfies a statement
 pub some_and : {A : Type 0} (o : Option A) (P : A → Type 0) → IsSomeAnd o P → (x : A) × (o ≡ Some x) × P x

@@ -12,6 +12,7 @@ use Rattle.journal_core.specs.Wrong.{wrong_at}
 use Rattle.journal_tasks.specs.Asking.{ask_body, asked_items}
 use Rattle.journal_tasks.specs.Comparing.{compared_text, wrong_compared}
 use Rattle.journal_tasks.specs.Confirming.{confirm_text, is_not_found, is_without_sums}
+use Rattle.journal_tasks.specs.Conflicting.{conflicts_text}
 use Rattle.journal_tasks.specs.Counting.{wrong_line}
 use Rattle.journal_tasks.specs.Diffing.{diff_text}
 use Rattle.journal_tasks.specs.Lists.{is_wrong, leaves_in}
@@ -206,10 +207,15 @@ RunsSelect choice ended input text result =
     RunsLines (selected_text choice) (λ lines rest. selected_text choice lines)
     (λ lines rest. select_outcome choice (first_copy choice.size lines) (second_copy choice.size lines) rest) ended input text result
 
+-- The effect of running the task `conflicts`: its output is the documents in conflict that the input lists, with the
+-- leaves of each of these documents. If a line of the input is wrong, the output is empty.
+abbrev pub RunsConflicts : Type 0 → List ℕ → List ℕ → Result Outcome ScriptFault → Type 0
+RunsConflicts ended input text result =
+    RunsLines (λ lines. []) conflicts_text (λ lines rest. wrong_or (wrong_line is_wrong lines rest) outcomes.Done) ended input text result
+
 -- ---- the tasks
 
--- How the output and the result of a task depend on the task's input. For the task `Conflicts`,
--- every output and every result is allowed.
+-- How the output and the result of a task depend on the task's input.
 abbrev pub RunsTask : Task → Options → Type 0 → List ℕ → List ℕ → Result Outcome ScriptFault → Type 0
 RunsTask (tasks.Page several) o ended input text result = RunsResponse (Page several) ended input text result
 RunsTask tasks.Refused o ended input text result = RunsResponse Refused ended input text result
@@ -225,7 +231,7 @@ RunsTask (tasks.Name word) o ended input text result = RunsName word.now ended i
 RunsTask (tasks.States unverified) o ended input text result = RunsStates unverified ended input text result
 RunsTask (tasks.Select size) o ended input text result = RunsSelect (choice_in size o) ended input text result
 RunsTask (tasks.Confirm at) o ended input text result = RunsConfirm (option_map (λ s. s.now) at) ended input text result
-RunsTask other o ended input text result = Unit {0}
+RunsTask tasks.Conflicts o ended input text result = RunsConflicts ended input text result
 
 -- ---- the program
 

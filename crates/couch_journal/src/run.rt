@@ -6,7 +6,7 @@ ghost use Rattle.script_engine.specs.Device.{FailsOnce};
 ghost use Rattle.journal_responses.specs.Responses.{IsOther, IsSaid};
 ghost use Rattle.journal_tasks.specs.Selecting.{choice_of};
 ghost use Rattle.couch_journal.specs.Status.{missing_or_done};
-ghost use Rattle.couch_journal.specs.Runs.{choice_in, IsNotShown, IsShown, RunsAsk, RunsCompare, RunsConfirm, RunsDiff, RunsLacking, RunsName, RunsParts, RunsReceived, RunsResponse, RunsSeal, RunsSelect, RunsStates, RunsTask, RunsWords, Shows, ShowsNothing};
+ghost use Rattle.couch_journal.specs.Runs.{choice_in, IsNotShown, IsShown, RunsAsk, RunsCompare, RunsConfirm, RunsConflicts, RunsDiff, RunsLacking, RunsName, RunsParts, RunsReceived, RunsResponse, RunsSeal, RunsSelect, RunsStates, RunsTask, RunsWords, Shows, ShowsNothing};
 
 use crate::ended::{
     Ended, Outcome, confirm_outcome, damaged_or, differs_or, missing_or_done, other_or_done,
@@ -17,11 +17,11 @@ use crate::tasks::{Task, task_of};
 use journal_core::seal_block;
 use journal_responses::{Said, info_of, page_of, read_said, refused_of};
 use journal_tasks::{
-    Conflicts, Filter, ask_leaves, compare_lists, confirm_journal, diff_leaves, lacking_leaves,
-    last_states, name_leaves, receive_leaves, select_lines, split_lines,
+    Filter, ask_leaves, compare_lists, confirm_journal, diff_leaves, lacking_leaves, last_states,
+    list_conflicts, name_leaves, receive_leaves, select_lines, split_lines,
 };
 use json::{Scratch, Value};
-use line_reader::{LineTask, read_all, run_task};
+use line_reader::read_all;
 use script_engine::{ScriptFault, ScriptRead, ScriptWrite, write_all};
 use std::alloc::Global;
 
@@ -162,20 +162,6 @@ fn run_response<R: ScriptRead, W: ScriptWrite>(
         Ok(refused) => write_shown(writer, text.as_slice(), refused),
         Err(said) => Ok(Outcome::Said(said)),
     }
-}
-
-/// Runs a task over the lines of the input.
-fn run_lines<T: LineTask, R: ScriptRead, W: ScriptWrite>(
-    alloc: Global,
-    task: &mut T,
-    reader: &mut R,
-    writer: &mut W,
-) -> Result<(), ScriptFault>
-    ensures took { (input text : List ℕ) × Appends (R.taken reader.old) (R.taken reader.new) input
-        × Appends (W.held writer.old) (W.held writer.new) text }
-    ensures ended { OnOk result (R.ended reader.new) }
-{
-    run_task(alloc, task, reader, writer)
 }
 
 /// Seals a block, and writes the line that ends it.
@@ -485,11 +471,13 @@ fn run_conflicts<R: ScriptRead, W: ScriptWrite>(
     writer: &mut W,
 ) -> Result<Outcome, ScriptFault>
     ensures { (input text : List ℕ) × Appends (R.taken reader.old) (R.taken reader.new) input
-        × Appends (W.held writer.old) (W.held writer.new) text }
+        × Appends (W.held writer.old) (W.held writer.new) text
+        × RunsConflicts (R.ended reader.new) input text result }
 {
-    let mut task = Conflicts::new(alloc);
-    run_lines(alloc, &mut task, reader, writer)?;
-    Ok(wrong_or(task.wrong(), Outcome::Done))
+    match list_conflicts(alloc, reader, writer) {
+        Ok(task) => Ok(wrong_or(task.wrong(), Outcome::Done)),
+        Err(fault) => Err(fault),
+    }
 }
 
 /// Runs a task with its arguments and options, and returns the outcome.

@@ -9,7 +9,10 @@ pub mod Halves
 pub mod Lacked
 pub mod LacksTables
 pub mod Lookups
+pub mod Histories
 pub mod Named
+pub mod Printed
+pub mod Ranked
 pub mod Receiving
 pub mod Requested
 pub mod Selected
@@ -32,3 +35,6 @@ pub use StateMaps.{leaf_added, rev_added, rev_kept, rev_known, state_found, stat
 pub use Selected.{Selects, first_ends, first_goes_on, first_step, lacks_on, none_numbered, number_inserted, number_on, number_put, opening_more, second_step, select_end, select_none, stored_leaves}
 pub use Confirmed.{Kept, confirm_end, confirm_line, kept_at, kept_is, on_two, report_all, report_found, with_text}
 pub use LacksTables.{kept_told, line_put, line_removed, line_written, none_stored, noted_none, noted_push, noted_untold}
+pub use Ranked.{inserted, number_no, number_yes, ranked_more, views}
+pub use Histories.{conflict_line, doc_heads, history_added}
+pub use Printed.{ancestor_stored, ancestor_written, doc_counted, doc_printed, head_known, head_new, leaf_stored, parts_without}

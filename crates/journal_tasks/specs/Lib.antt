@@ -2,6 +2,7 @@ pub mod Arguments
 pub mod Asking
 pub mod Comparing
 pub mod Confirming
+pub mod Conflicting
 pub mod Counting
 pub mod Diffing
 pub mod Documents
@@ -9,6 +10,7 @@ pub mod Halves
 pub mod Lists
 pub mod Missing
 pub mod Naming
+pub mod Ranking
 pub mod Receiving
 pub mod Selecting
 pub mod Splitting
@@ -28,3 +30,5 @@ pub use Splitting.{HasSplit, IsSplitting, complete_text, fits, has_space, last_t
 pub use Stating.{HasStated, IsReading, IsStating, StateView, StatesView, entries_of, head_in, head_read, is_damaged, is_right, is_wrong_line, last_state, no_state, place_of, put_at, rev_about, state_about, state_at, state_by, state_line, state_lines, state_of, state_or_none, state_view, stated, stated_by, stated_ids, states_of, states_text, states_view, stored_revs, value_at, with_rev, wrong_in}
 pub use Selecting.{Choice, HasSelected, IsClosed, IsOpening, IsSelecting, IsStage, choice_of, chosen, first_copy, has_head, has_number, is_chosen, is_copy_damaged, is_copy_other, is_entry, is_head, is_number, is_number_of, is_selected, lacks_chosen, lacks_number, last_number, leaf_number, lines_at, noted_number, number_at, other_hash, printed, prints, second_copy, selected_leaves, selected_of, selected_revs, selected_text, text_number}
 pub use Confirming.{ClosesBlock, EndsLine, HasConfirmed, IsConfirming, KeepsLine, confirm_text, confirms_more, docs_in, first_has_doc, found_from, found_in, found_on, is_told_of, is_at, is_at_given, is_doc_line, is_not_found, is_rest, is_told, is_without_sums, lacks_line_of, lacks_text, lacks_view, looked, noted, noted_all, noted_by, open_lacks, report, report_at, report_text, stored_report, tells, text_or_none, texts_in, with_found, without}
+pub use Conflicting.{HasConflicts, HistoriesView, IsConflicting, add_entry_head, add_head, add_history, ancestry, ancestry_text, comma_text, conflict_text, conflicts_report, conflicts_text, doc_line, flag_text, has_two_live, heads_of, heads_view, histories_of, histories_view, is_in_conflict, known_count, leaf_line, leaves_or_none, ranked_leaves, revs_known, winner_text}
+pub use Ranking.{generation_in, insert_ranked, is_above, is_ancestor, is_dash, leaves_among, number_in, outranks, parts_by, ranked, rev_parts}

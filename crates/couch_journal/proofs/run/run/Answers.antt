@@ -45,6 +45,4 @@ pub returns-in-Compare : goal.returns-in-Compare
 returns-in-Compare g c = task_ran c.args.task.now (tasks.Compare c.in-Compare.documents) c.args.options.now _ _ _ _ _ c.run_compare.result c.in-Compare.is c.run_compare.ensures
 
 pub returns-in-Conflicts : goal.returns-in-Conflicts
-returns-in-Conflicts g c =
-    let t = c.run_conflicts.ensures in
-    task_ran c.args.task.now (tasks.Conflicts) c.args.options.now _ _ _ _ _ c.run_conflicts.result c.in-Conflicts.is (t.0, t.1, t.2, t.3, tt)
+returns-in-Conflicts g c = task_ran c.args.task.now (tasks.Conflicts) c.args.options.now _ _ _ _ _ c.run_conflicts.result c.in-Conflicts.is c.run_conflicts.ensures
