@@ -3,11 +3,12 @@
 ghost use Rattle.std.specs.Prelude.{◌≡◌, [], true, IfOk};
 ghost use Rattle.json_values.specs.LineView.{line_view};
 ghost use Rattle.script_engine.specs.Serving.{Fits, IsSplit, MayTell};
+ghost use Rattle.command_api.specs.Telling.{AnswersIn};
 ghost use Rattle.read_commands.specs.Rest.{FitsRest, rest_left, told_begun};
 ghost use Rattle.commands.specs.Script.{AnswersAsked};
 ghost use Rattle.commands.specs.words.{asked_if, asked_in};
 
-use command_api::{serve_in, text_member};
+use command_api::{Command, serve_in, text_member};
 use json_values::{Line, LineValue, is_same_text};
 use read_commands::{
     Audit, Changes, Compare, Conflicts, Doc, Docs, Info, Ledger, Log, Rest, Show, begin_in, whole,
@@ -84,36 +85,36 @@ pub fn serve<H: Threads + Wait + Sync>(
         return Err(Refusal::BadCommand);
     };
     match word {
-        CommandName::Load => whole(serve_in::<&Line<'_>, Load<'_, '_>, H>(
+        CommandName::Load => serve_whole::<&Line<'_>, Load<'_, '_>, H>(
             rt, alloc, databases, line, answer,
-        )),
-        CommandName::Edit => whole(serve_in::<&Line<'_>, Edit<'_, '_>, H>(
+        ),
+        CommandName::Edit => serve_whole::<&Line<'_>, Edit<'_, '_>, H>(
             rt, alloc, databases, line, answer,
-        )),
-        CommandName::Show => whole(serve_in::<&Line<'_>, Show<'_>, H>(
+        ),
+        CommandName::Show => serve_whole::<&Line<'_>, Show<'_>, H>(
             rt, alloc, databases, line, answer,
-        )),
-        CommandName::Doc => whole(serve_in::<&Line<'_>, Doc<'_>, H>(
+        ),
+        CommandName::Doc => serve_whole::<&Line<'_>, Doc<'_>, H>(
             rt, alloc, databases, line, answer,
-        )),
-        CommandName::Changes => whole(serve_in::<&Line<'_>, Changes<'_>, H>(
+        ),
+        CommandName::Changes => serve_whole::<&Line<'_>, Changes<'_>, H>(
             rt, alloc, databases, line, answer,
-        )),
-        CommandName::Log => whole(serve_in::<&Line<'_>, Log<'_, '_>, H>(
+        ),
+        CommandName::Log => serve_whole::<&Line<'_>, Log<'_, '_>, H>(
             rt, alloc, databases, line, answer,
-        )),
-        CommandName::Audit => whole(serve_in::<&Line<'_>, Audit<'_, '_>, H>(
+        ),
+        CommandName::Audit => serve_whole::<&Line<'_>, Audit<'_, '_>, H>(
             rt, alloc, databases, line, answer,
-        )),
-        CommandName::Replicate => whole(serve_in::<&Line<'_>, Replicate<'_, '_>, H>(
+        ),
+        CommandName::Replicate => serve_whole::<&Line<'_>, Replicate<'_, '_>, H>(
             rt, alloc, databases, line, answer,
-        )),
-        CommandName::Backup => whole(serve_in::<&Line<'_>, Backup<'_>, H>(
+        ),
+        CommandName::Backup => serve_whole::<&Line<'_>, Backup<'_>, H>(
             rt, alloc, databases, line, answer,
-        )),
-        CommandName::Restore => whole(serve_in::<&Line<'_>, Restore<'_>, H>(
+        ),
+        CommandName::Restore => serve_whole::<&Line<'_>, Restore<'_>, H>(
             rt, alloc, databases, line, answer,
-        )),
+        ),
         CommandName::Compare => begin_in::<&Line<'_>, Compare<'_, '_>>(
             alloc, databases, line, answer,
         ),
@@ -121,14 +122,31 @@ pub fn serve<H: Threads + Wait + Sync>(
             alloc, databases, line, answer,
         ),
         CommandName::Docs => begin_in::<&Line<'_>, Docs<'_, '_>>(alloc, databases, line, answer),
-        CommandName::Info => whole(serve_in::<&Line<'_>, Info<'_>, H>(
+        CommandName::Info => serve_whole::<&Line<'_>, Info<'_>, H>(
             rt, alloc, databases, line, answer,
-        )),
-        CommandName::Ledger => whole(serve_in::<&Line<'_>, Ledger<'_>, H>(
+        ),
+        CommandName::Ledger => serve_whole::<&Line<'_>, Ledger<'_>, H>(
             rt, alloc, databases, line, answer,
-        )),
-        CommandName::Sync => whole(serve_in::<&Line<'_>, BothWays<'_, '_>, H>(
+        ),
+        CommandName::Sync => serve_whole::<&Line<'_>, BothWays<'_, '_>, H>(
             rt, alloc, databases, line, answer,
-        )),
+        ),
     }
+}
+
+/// Runs a command whose complete output is in the first piece.
+fn serve_whole<L, C: Command<L>, H: Threads + Wait + Sync>(
+    rt: &H,
+    alloc: Global,
+    databases: &mut Databases,
+    line: L,
+    answer: &mut Vec<u8>,
+) -> Result<Option<Rest>, Refusal>
+    requires empty { answer.old.items ≡ [] }
+    ensures told { MayTell (AnswersIn C.answers) databases.old (C.asked_in (C.seen line))
+        (told_begun databases.new result answer.new.items) databases.new }
+    ensures fits { IfOk result (λ rest. Fits (FitsRest databases.new) rest) }
+    ensures split { IfOk result (λ rest. IsSplit 65536 (rest_left databases.new) true answer.new.items rest) }
+{
+    whole(serve_in::<L, C, H>(rt, alloc, databases, line, answer))
 }

@@ -1,5 +1,5 @@
 -- Chains of hops through a hub.
-use Rattle.proof_prelude.proofs.{◌≡◌, ℕ, zero, suc, ◌+◌, ◌<◌, ◌≤◌, List, [], ◌∷◌, ◌++◌, length, take, get_or, refl, sym, ap, ◌∙◌, subst, inl, inr, arith, cases_lt, append_assoc, common_steps}
+use Rattle.proof_prelude.proofs.{◌≡◌, ℕ, zero, suc, ◌+◌, ◌<◌, ◌≤◌, List, [], ◌∷◌, ◌++◌, length, take, get_or, refl, sym, ap, ◌∙◌, subst, inl, inr, arith, cases_eq, common_steps}
 use Rattle.couch_base.specs.{Id}
 use Rattle.repl_peer.specs.{PeerValue}
 use Rattle.repl_target.specs.{Plan}
@@ -25,11 +25,9 @@ then_on (h ∷ xs) ys l m n first second =
 led : (hop : ℕ → Plan → Hop) (plans : List Plan) (k m : ℕ) → k ≤ m → m < k + length plans → (plan : Plan) × Leads (hops_of hop k plans) (hop (m + 1) plan).from (hop (m + 1) plan).to
 led hop [] k m low high = absurd (omega (arith, low, high))
 led hop (plan ∷ plans) k m low high =
-    elim (cases_lt k m) [
-      | inl later ↦ (let x = led hop plans (k + 1) m (omega (arith, later)) (omega (arith, high)) in (x.0, inl x.1))
-      | inr here ↦
-          let same : k ≡ m = omega (arith, low, here) in
-          subst (λ x. (p : Plan) × Leads (hops_of hop k (plan ∷ plans)) (hop (x + 1) p).from (hop (x + 1) p).to) same (plan, inr (refl, stays (hops_of hop (k + 1) plans) (hop (k + 1) plan).to))
+    elim (cases_eq k m) [
+      | inl same ↦ subst (λ x. (p : Plan) × Leads (hops_of hop k (plan ∷ plans)) (hop (x + 1) p).from (hop (x + 1) p).to) same (plan, inr (refl, stays (hops_of hop (k + 1) plans) (hop (k + 1) plan).to))
+      | inr other ↦ (let x = led hop plans (k + 1) m (omega arith) (omega (arith, high)) in (x.0, inl x.1))
     ]
 
 -- a chain leads from each place to the hub, and from the hub to each place
@@ -64,15 +62,8 @@ hub_spread peers there back hops peers' is a b all net id first second none agre
 -- ---- one more plan
 
 hops_more : (hop : ℕ → Plan → Hop) (plans : List Plan) (k : ℕ) (plan : Plan) → hops_of hop k (plans ++ plan ∷ []) ≡ hops_of hop k plans ++ hop (k + length plans + 1) plan ∷ []
-hops_more hop [] k plan = (let e : k + 1 ≡ k + 0 + 1 = omega arith in ap (λ (n : ℕ). hop n plan ∷ []) e)
-hops_more hop (first ∷ plans) k plan =
-    let e : k + 1 + length plans + 1 ≡ k + suc (length plans) + 1 = omega arith in
-    ap (λ hs. hop (k + 1) first ∷ hs) (hops_more hop plans (k + 1) plan ∙ ap (λ (n : ℕ). hops_of hop (k + 1) plans ++ hop n plan ∷ []) e)
+hops_more hop [] k plan = grind (arith, common_steps)
+hops_more hop (first ∷ plans) k plan = grind (arith, common_steps, hops_more hop plans (k + 1) plan)
 
 pub plans_next : (hop : ℕ → Plan → Hop) (plans : List Plan) (k : ℕ) (first : List Hop) (plan : Plan) (hops : List Hop) → k < length plans → plan ≡ get_or plans k plan → hops ≡ first ++ hops_of hop 0 (take k plans) → hops ++ hop (k + 1) plan ∷ [] ≡ first ++ hops_of hop 0 (take (k + 1) plans)
-plans_next hop plans k first plan hops within is before =
-    let next : take (k + 1) plans ≡ take k plans ++ plan ∷ [] = grind (arith, common_steps) in
-    let size : 0 + length (take k plans) + 1 ≡ k + 1 = grind (arith, common_steps) in
-    ap (λ hs. hs ++ hop (k + 1) plan ∷ []) before
-    ∙ (append_assoc first (hops_of hop 0 (take k plans)) (hop (k + 1) plan ∷ [])
-    ∙ ap (λ hs. first ++ hs) (sym (ap (hops_of hop 0) next ∙ hops_more hop (take k plans) 0 plan ∙ ap (λ n. hops_of hop 0 (take k plans) ++ hop n plan ∷ []) size)))
+plans_next hop plans k first plan hops within is before = grind (arith, common_steps, hops_more hop (take k plans) 0 plan)

@@ -1,6 +1,7 @@
 -- Documents made only by edits agree, if no two different edits have the same MD5; and they stay made by the edits.
-use Rattle.proof_prelude.proofs.{arith, common_steps, ◌≡◌, ℕ, Bool, true, false, List, [], ◌∷◌, ◌++◌, ◌⊎◌, length, Option, Some, None, is_some, Result, Ok, Err, refl, sym, ap, ◌∙◌, subst, inl, inr, bytes_eq, option_to_list, get, get-empty, eq_by_cmp, false≢true, cases_Bool, cond_both, same_Some, bytes_eq-Decides}
+use Rattle.proof_prelude.proofs.{arith, common_steps, ◌≡◌, ℕ, Bool, true, false, List, [], ◌∷◌, ◌++◌, ◌⊎◌, length, Option, Some, None, is_some, Result, Ok, Err, refl, sym, ap, ◌∙◌, subst, inl, inr, bytes_eq, option_to_list, get, get-empty, eq_by_cmp, false≢true, cases_Bool, cases_eq, map-append, slice_get, same_Some, bytes_eq-Decides}
 use Rattle.rev_core.specs.{RevId, rev_cmp, rev_tie_is, edges_of, edit_rev}
+use Rattle.rev_tree.proofs.{slice_get-last}
 use Rattle.rev_tree.specs.{ContentValue, TreeValue, at_head, Agree, IsGrownBy}
 use Rattle.doc_json.specs.Document.{Document}
 use Rattle.couch_base.specs.{Id, tree_of, content_of, edited, edit_document, BaseFault}
@@ -8,7 +9,7 @@ use Rattle.repl_peer.specs.{PeerValue, new_peer, after_edit, after_load}
 use Rattle.repl_network.specs.{Hop, IsAt, peers_of, tree_alone, IsRooted, IsRootedAt, IsChangedAt, EditValue, Makes, IsMadeBy, AllMadeBy, HaveNoCollision, IsOneOf, MadeAgree, StaysMade, StaysMadeExcept}
 use Rattle.repl_network.specs.Hopped.{Hopped}
 use Rattle.repl_network.proofs.Writes.{IsWhole-grown, alone, edit_makes, edit_rooted, sig_of}
-use Rattle.repl_network.proofs.Places.{old_or_new, peers_more}
+use Rattle.repl_network.proofs.Places.{before_last}
 use Rattle.repl_network.proofs.Hops.{was}
 use Rattle.repl_network.proofs.Writes as writes
 
@@ -75,7 +76,7 @@ module _ (among : EditValue → Bool) where
           let x = writes.tree_at peers place d peers' put n p at in
           let was = made n x.0 x.1 in
           let makes = edit_makes w.before.db id parent deleted body e is in
-          let rooted : IsRootedAt peers place d = λ q here. subst (λ (y : PeerValue). IsRooted y.db d) (writes.one_peer peers place w.before q w.at here) (edit_rooted w.before.db id parent deleted body e is) in
+          let rooted : IsRootedAt peers place d = λ q here. subst (λ (y : PeerValue). IsRooted y.db d) (same_Some w.before q (sym w.at ∙ here)) (edit_rooted w.before.db id parent deleted body e is) in
           let edit : EditValue = record { before = e.1; deleted = deleted; body = body } in
           record {
             parents = λ c q h. elim (x.2.parents c q h) [ inl own ↦ was.parents c q own | inr new ↦ (let k = edge_of id deleted body e.0 e.1 c q new in (edit, one w.before w.at e is, makes ∙ ap Ok (sym k.0), k.1)) ];
@@ -103,16 +104,16 @@ load_made peers place d peers' w among other apart made =
     ]
 
 -- a new peer has no documents
-in_old_or_new : (among : EditValue → Bool) (peers : List PeerValue) (uuid : ℕ) (id : Id) → AllMadeBy among peers id → (n : ℕ) (p : PeerValue) → IsAt peers n p ⊎ ((n ≡ length peers) × (new_peer uuid ≡ p)) → IsMadeBy among (tree_of p.db.docs id)
-in_old_or_new among peers uuid id made n p (inl old) = made n p old
-in_old_or_new among peers uuid id made n p (inr new) = subst (λ (x : PeerValue). IsMadeBy among (tree_of x.db.docs id)) new.1 (record {
-  parents = λ c q h. absurd (false≢true (ap is_some (sym (get-empty rev_cmp c) ∙ h)));
-  contents = λ r b h. absurd (false≢true (ap is_some (sym (get-empty rev_cmp r) ∙ h)));
-  whole = λ r there none. absurd (false≢true (sym (ap is_some (get-empty rev_cmp r)) ∙ there));
-})
-
-pub added_made : {F : Type 0} (peers : List (F × PeerValue)) (filter : F) (x : F × PeerValue) (uuid : ℕ) → x ≡ (filter, new_peer uuid) → StaysMade (peers_of peers) (peers_of (peers ++ x ∷ []))
-added_made {F = F} peers filter x uuid is among id made n p at =
-    let one : x.1 ≡ new_peer uuid = ap (λ (y : F × PeerValue). y.1) is in
-    let there : IsAt (peers_of peers ++ new_peer uuid ∷ []) n p = subst (λ q. IsAt (peers_of peers ++ q ∷ []) n p) one (subst (λ ps. IsAt ps n p) (peers_more peers x) at) in
-    in_old_or_new among (peers_of peers) uuid id made n p (old_or_new (peers_of peers) (new_peer uuid) n p there)
+pub added_made : {F : Type 0} (peers : List (F × PeerValue)) (filter : F) (uuid : ℕ) → StaysMade (peers_of peers) (peers_of (peers ++ (filter, new_peer uuid) ∷ []))
+added_made {F = F} peers filter uuid among id made n p at =
+    let old = peers_of peers in
+    let new = new_peer uuid in
+    let there : IsAt (old ++ new ∷ []) n p = subst (λ ps. IsAt ps n p) (map-append (λ (x : F × PeerValue). x.1) peers ((filter, new) ∷ [])) at in
+    elim (cases_eq n (length old)) [
+      | inl e ↦ subst (λ (x : PeerValue). IsMadeBy among (tree_of x.db.docs id)) (same_Some new p (sym (slice_get-last old new) ∙ ap (slice_get (old ++ new ∷ [])) (sym e) ∙ there)) (record {
+        parents = λ c q h. absurd (false≢true (ap is_some (sym (get-empty rev_cmp c) ∙ h)));
+        contents = λ r b h. absurd (false≢true (ap is_some (sym (get-empty rev_cmp r) ∙ h)));
+        whole = λ r there none. absurd (false≢true (sym (ap is_some (get-empty rev_cmp r)) ∙ there));
+      })
+      | inr o ↦ made n p (sym (before_last old new n o) ∙ there)
+    ]

@@ -20,17 +20,11 @@ pub data Two {K : Type 0} (m n : K) (s s' t t' : PeerValue) : K → PeerValue �
   at_target : Two m n s s' t t' n t t'
   elsewhere : {k : K} {p : PeerValue} → k ≢ m → k ≢ n → Two m n s s' t t' k p p
 
-source_at : {K : Type 0} (m n : K) (s s' t t' : PeerValue) (k : K) (p q : PeerValue) → m ≡ k → s ≡ p → s' ≡ q → Two m n s s' t t' k p q
-source_at m n s s' t t' k p q e f g = subst (λ x. Two m n s s' t t' x p q) e (subst (λ x. Two m n s s' t t' m x q) f (subst (Two m n s s' t t' m s) g at_source))
-
-target_at : {K : Type 0} (m n : K) (s s' t t' : PeerValue) (k : K) (p q : PeerValue) → n ≡ k → t ≡ p → t' ≡ q → Two m n s s' t t' k p q
-target_at m n s s' t t' k p q e f g = subst (λ x. Two m n s s' t t' x p q) e (subst (λ x. Two m n s s' t t' n x q) f (subst (Two m n s s' t t' n t) g at_target))
-
--- a property of the only changed peer and of the others
-pub one_case : {K : Type 0} (n : K) (old new : PeerValue) (P : K → PeerValue → PeerValue → Type 0) → P n old new → ((k : K) (p : PeerValue) → P k p p) → (k : K) (p q : PeerValue) → Two n n old new old new k p q → P k p q
-one_case n old new P here past k p q at_source = here
-one_case n old new P here past k p q at_target = here
-one_case n old new P here past k p q (elsewhere o u) = past k p
+-- a property of the two changed peers and of the others
+pub two_case : {K : Type 0} (peers : K → Option PeerValue) (m n : K) (s s' t t' : PeerValue) (P : K → PeerValue → PeerValue → Type 0) → P m s s' → P n t t' → ((k : K) (p : PeerValue) → peers k ≡ Some p → P k p p) → (k : K) (p q : PeerValue) → peers k ≡ Some p → Two m n s s' t t' k p q → P k p q
+two_case peers m n s s' t t' P source target past k p q at at_source = source
+two_case peers m n s s' t t' P source target past k p q at at_target = target
+two_case peers m n s s' t t' P source target past k p q at (elsewhere o u) = past k p at
 
 -- every peer before has a peer after, and the reverse
 pub record Moves {K : Type 0} (peers peers' : K → Option PeerValue) (Became : K → PeerValue → PeerValue → Type 0) : Type 0 where
@@ -38,35 +32,32 @@ pub record Moves {K : Type 0} (peers peers' : K → Option PeerValue) (Became : 
   pub forth : (k : K) (p : PeerValue) → peers k ≡ Some p → (q : PeerValue) × (peers' k ≡ Some q) × Became k p q
 
 pub moves : {K : Type 0} (decide : (m n : K) → (m ≡ n) ⊎ (m ≢ n)) (peers peers' : K → Option PeerValue) (m n : K) (s s' t t' : PeerValue) → AreChanged peers m n s t s' t' peers' → Moves peers peers' (Two m n s s' t t')
-moves decide peers peers' m n s s' t t' c = record {
+moves {K = K} decide peers peers' m n s s' t t' c = record {
   back = λ k q at. elim (decide k m) [
-    | inl e ↦ (s, ap peers e ∙ c.from, source_at m n s s' t t' k s q (sym e) refl (same_Some s' q (sym c.from_then ∙ ap peers' (sym e) ∙ at)))
+    | inl e ↦ (s, ap peers e ∙ c.from, subst (λ (x : K × PeerValue). Two m n s s' t t' x.0 s x.1) (λ i. (sym e i, same_Some s' q (sym c.from_then ∙ ap peers' (sym e) ∙ at) i)) at_source)
     | inr o ↦ elim (decide k n) [
-      | inl e ↦ (t, ap peers e ∙ c.to, target_at m n s s' t t' k t q (sym e) refl (same_Some t' q (sym c.to_then ∙ ap peers' (sym e) ∙ at)))
+      | inl e ↦ (t, ap peers e ∙ c.to, subst (λ (x : K × PeerValue). Two m n s s' t t' x.0 t x.1) (λ i. (sym e i, same_Some t' q (sym c.to_then ∙ ap peers' (sym e) ∙ at) i)) at_target)
       | inr u ↦ (q, sym (c.others k o u) ∙ at, elsewhere o u)
     ]
   ];
   forth = λ k p at. elim (decide k m) [
-    | inl e ↦ (s', ap peers' e ∙ c.from_then, source_at m n s s' t t' k p s' (sym e) (same_Some s p (sym c.from ∙ ap peers (sym e) ∙ at)) refl)
+    | inl e ↦ (s', ap peers' e ∙ c.from_then, subst (λ (x : K × PeerValue). Two m n s s' t t' x.0 x.1 s') (λ i. (sym e i, same_Some s p (sym c.from ∙ ap peers (sym e) ∙ at) i)) at_source)
     | inr o ↦ elim (decide k n) [
-      | inl e ↦ (t', ap peers' e ∙ c.to_then, target_at m n s s' t t' k p t' (sym e) (same_Some t p (sym c.to ∙ ap peers (sym e) ∙ at)) refl)
+      | inl e ↦ (t', ap peers' e ∙ c.to_then, subst (λ (x : K × PeerValue). Two m n s s' t t' x.0 x.1 t') (λ i. (sym e i, same_Some t p (sym c.to ∙ ap peers (sym e) ∙ at) i)) at_target)
       | inr u ↦ (p, c.others k o u ∙ at, elsewhere o u)
     ]
   ];
 }
 
-two_uuid : {K : Type 0} (m n : K) (s s' t t' : PeerValue) → uuid_of s' ≡ uuid_of s → uuid_of t' ≡ uuid_of t → (k : K) (p q : PeerValue) → Two m n s s' t t' k p q → uuid_of q ≡ uuid_of p
-two_uuid m n s s' t t' e f k p q at_source = e
-two_uuid m n s s' t t' e f k p q at_target = f
-two_uuid m n s s' t t' e f k p q (elsewhere o u) = refl
-
 -- the peers have the same UUIDs as before
 pub same_uuids : {K : Type 0} (decide : (m n : K) → (m ≡ n) ⊎ (m ≢ n)) (peers peers' : K → Option PeerValue) (m n : K) (s s' t t' : PeerValue) → AreChanged peers m n s t s' t' peers' → uuid_of s' ≡ uuid_of s → uuid_of t' ≡ uuid_of t → (u : ℕ)
     → (IsHeldBy peers u → IsHeldBy peers' u) × (IsHeldBy peers' u → IsHeldBy peers u)
-same_uuids decide peers peers' m n s s' t t' c e f u = (
-  λ h. (let x = (moves decide peers peers' m n s s' t t' c).forth h.0 h.1 h.2 in (h.0, x.0, x.1, two_uuid m n s s' t t' e f h.0 h.1 x.0 x.2 ∙ h.3)),
-  λ h. (let x = (moves decide peers peers' m n s s' t t' c).back h.0 h.1 h.2 in (h.0, x.0, x.1, sym (two_uuid m n s s' t t' e f h.0 x.0 h.1 x.2) ∙ h.3)),
-)
+same_uuids decide peers peers' m n s s' t t' c e f u =
+    let move = moves decide peers peers' m n s s' t t' c in
+    let same = two_case peers m n s s' t t' (λ _ p q. uuid_of q ≡ uuid_of p) e f (λ _ _ _. refl) in (
+      λ h. (let x = move.forth h.0 h.1 h.2 in (h.0, x.0, x.1, same h.0 h.1 x.0 h.2 x.2 ∙ h.3)),
+      λ h. (let x = move.back h.0 h.1 h.2 in (h.0, x.0, x.1, sym (same h.0 x.0 h.1 x.1 x.2) ∙ h.3)),
+    )
 
 -- the change of at most two peers keeps all pairs consistent
 pub record KeepsPairs {K : Type 0} (peers : K → Option PeerValue) (copy : K → BackupValue → Type 0) (m n : K) (s s' t t' : PeerValue) : Type 0 where
@@ -131,8 +122,11 @@ module _ {K : Type 0} (decide : (m n : K) → (m ≡ n) ⊎ (m ≢ n)) (peers : 
       move : Moves peers peers' (Two m n s s' t t')
       move = moves decide peers peers' m n s s' t t' c
 
-      uuid : (k : K) (p q : PeerValue) → Two m n s s' t t' k p q → uuid_of q ≡ uuid_of p
-      uuid = two_uuid m n s s' t t' f.source_uuid f.target_uuid
+      each : (P : K → PeerValue → PeerValue → Type 0) → P m s s' → P n t t' → ((k : K) (p : PeerValue) → peers k ≡ Some p → P k p p) → (k : K) (p q : PeerValue) → peers k ≡ Some p → Two m n s s' t t' k p q → P k p q
+      each = two_case peers m n s s' t t'
+
+      uuid : (k : K) (p q : PeerValue) → peers k ≡ Some p → Two m n s s' t t' k p q → uuid_of q ≡ uuid_of p
+      uuid = each (λ _ p q. uuid_of q ≡ uuid_of p) f.source_uuid f.target_uuid (λ _ _ _. refl)
 
       pairs : (k l : K) (p q p' q' : PeerValue) → k ≢ l → peers k ≡ Some p → peers l ≡ Some q → Two m n s s' t t' k p p' → Two m n s s' t t' l q q' → (c : Choice) → AreTiedAt copy k p q c → AreTiedAt copy k p' q' c
       pairs k l p q p' q' ne at at' at_source at_source c = absurd (ne refl)
@@ -147,7 +141,7 @@ module _ {K : Type 0} (decide : (m n : K) → (m ≡ n) ⊎ (m ≢ n)) (peers : 
 
       two_consistent : AreConsistent peers copy → AreConsistent peers' copy'
       two_consistent h = record {
-        apart = λ k l p q a b e. (let x = move.back k p a in let y = move.back l q b in h.apart k l x.0 y.0 x.1 y.1 (sym (uuid k x.0 p x.2) ∙ e ∙ uuid l y.0 q y.2));
+        apart = λ k l p q a b e. (let x = move.back k p a in let y = move.back l q b in h.apart k l x.0 y.0 x.1 y.1 (sym (uuid k x.0 p x.1 x.2) ∙ e ∙ uuid l y.0 q y.1 y.2));
         tied = λ k l p q a b ne c backups own.
             (let x = move.back k p a in
             let y = move.back l q b in
@@ -160,31 +154,21 @@ module _ {K : Type 0} (decide : (m n : K) → (m ≡ n) ⊎ (m ≢ n)) (peers : 
         copies = λ k b i.
             (let x = h.copies k b (less k b i) in
             let q = move.forth k x.peer x.there in
-            let same = uuid k x.peer q.0 q.2 in
+            let same = uuid k x.peer q.0 x.there q.2 in
             record { peer = q.0; there = q.1; uuid = x.uuid ∙ sym same; logs = λ l j. still (uuid_of x.peer) (uuid_of q.0) l.0.target same (x.logs l j) });
-        logs = λ k q at l j. (let x = move.back k q at in still (uuid_of x.0) (uuid_of q) l.0.target (uuid k x.0 q x.2) (logs k x.0 q x.1 x.2 l j));
-        sessions = λ k q at z j. (let x = move.back k q at in still (uuid_of x.0) (uuid_of q) z.rep.source (uuid k x.0 q x.2) (sessions k x.0 q x.1 x.2 z j));
+        logs = λ k q at l j. (let x = move.back k q at in still (uuid_of x.0) (uuid_of q) l.0.target (uuid k x.0 q x.1 x.2) (each (λ _ p z. LeadToOthers peers (uuid_of p) z.outgoing) source_logs target_logs h.logs k x.0 q x.1 x.2 l j));
+        sessions = λ k q at z j. (let x = move.back k q at in still (uuid_of x.0) (uuid_of q) z.rep.source (uuid k x.0 q x.1 x.2) (each (λ _ p y. ComeFromOthers peers (uuid_of p) y.sessions) source_sessions target_sessions h.sessions k x.0 q x.1 x.2 z j));
       }
         where
           still : (own own' u : ℕ) → own' ≡ own → IsOther peers own u → IsOther peers' own' u
-          still own own' u e o = (let q = move.forth o.0.0 o.0.1 o.0.2 in ((o.0.0, q.0, q.1, uuid o.0.0 o.0.1 q.0 q.2 ∙ o.0.3), λ i. o.1 (i ∙ e)))
-
-          logs : (k : K) (p q : PeerValue) → peers k ≡ Some p → Two m n s s' t t' k p q → LeadToOthers peers (uuid_of p) q.outgoing
-          logs k p q at at_source = source_logs
-          logs k p q at at_target = target_logs
-          logs k p q at (elsewhere o u) = h.logs k p at
-
-          sessions : (k : K) (p q : PeerValue) → peers k ≡ Some p → Two m n s s' t t' k p q → ComeFromOthers peers (uuid_of p) q.sessions
-          sessions k p q at at_source = source_sessions
-          sessions k p q at at_target = target_sessions
-          sessions k p q at (elsewhere o u) = h.sessions k p at
+          still own own' u e o = (let q = move.forth o.0.0 o.0.1 o.0.2 in ((o.0.0, q.0, q.1, uuid o.0.0 o.0.1 q.0 o.0.2 q.2 ∙ o.0.3), λ i. o.1 (i ∙ e)))
 
     -- ---- one peer changes
 
-    module _ (n : K) (old new : PeerValue) (c : Becomes peers n old new peers') (same : uuid_of new ≡ uuid_of old) (as_source : (q : PeerValue) (chosen : Choice) → AreTiedAt copy n old q chosen → AreTiedAt copy n new q chosen)
-        (as_target : (p : PeerValue) (chosen : Choice) (backups : List BackupValue) → IsTiedWith backups p old chosen → IsTiedWith backups p new chosen) where
-      one_keeps : KeepsPairs peers copy n n old new old new
-      one_keeps = record {
+    module _ (n : K) (old new : PeerValue) where
+      one_keeps : uuid_of new ≡ uuid_of old → ((q : PeerValue) (chosen : Choice) → AreTiedAt copy n old q chosen → AreTiedAt copy n new q chosen) → ((p : PeerValue) (chosen : Choice) (backups : List BackupValue) → IsTiedWith backups p old chosen → IsTiedWith backups p new chosen)
+          → KeepsPairs peers copy n n old new old new
+      one_keeps same as_source as_target = record {
         source_uuid = same;
         target_uuid = same;
         forward = λ ne. absurd (ne refl);
@@ -195,24 +179,19 @@ module _ {K : Type 0} (decide : (m n : K) → (m ≡ n) ⊎ (m ≢ n)) (peers : 
         into_target = λ k p o at chosen t backups own. as_target p chosen backups (t backups own);
       }
 
-      one_consistent : AreConsistent peers copy → AreConsistent peers' copy'
-      one_consistent = two_consistent n n old new old new c one_keeps
-
-      one_network : LeadToOthers peers (uuid_of old) new.outgoing → ComeFromOthers peers (uuid_of old) new.sessions → IsNetwork peers copy → IsNetwork peers' copy'
-      one_network logs sessions = two_network n n old new old new c one_keeps logs logs sessions sessions
+      one_network : Becomes peers n old new peers' → KeepsPairs peers copy n n old new old new → LeadToOthers peers (uuid_of old) new.outgoing → ComeFromOthers peers (uuid_of old) new.sessions → IsNetwork peers copy → IsNetwork peers' copy'
+      one_network c f logs sessions = two_network n n old new old new c f logs logs sessions sessions
 
     -- by a local write
     module _ (n : K) (old new : PeerValue) (c : Becomes peers n old new peers') (w : Writes old new) where
-      written_from : (q : PeerValue) (chosen : Choice) → AreTiedAt copy n old q chosen → AreTiedAt copy n new q chosen
-      written_from q chosen t backups own = written_source old new q chosen w backups (t backups own)
+      written_keeps : KeepsPairs peers copy n n old new old new
+      written_keeps = one_keeps n old new w.later.db.uuid (λ q chosen t backups own. written_source old new q chosen w backups (t backups own)) (λ p chosen. written_target p old new chosen w)
 
       pub written_consistent : AreConsistent peers copy → AreConsistent peers' copy'
-      written_consistent = one_consistent n old new c w.later.db.uuid written_from (λ p chosen. written_target p old new chosen w)
+      written_consistent = two_consistent n n old new old new c written_keeps
 
       written_network : IsNetwork peers copy → IsNetwork peers' copy'
-      written_network h =
-          one_network n old new c w.later.db.uuid written_from (λ p chosen. written_target p old new chosen w)
-          (λ l m. h.logs n old c.from l (subst (Among l) w.logs m)) (λ s m. h.sessions n old c.from s (subst (Among s) w.sessions m)) h
+      written_network h = one_network n old new c written_keeps (λ l m. h.logs n old c.from l (subst (Among l) w.logs m)) (λ s m. h.sessions n old c.from s (subst (Among s) w.sessions m)) h
 
     -- by a restore
     restored_network : (n : K) (p : PeerValue) (b : BackupValue) → copy n b → restore_answer p b ≡ Ok tt → Becomes peers n p (restored p b) peers' → IsNetwork peers copy → IsNetwork peers' copy'
@@ -220,9 +199,9 @@ module _ {K : Type 0} (decide : (m n : K) → (m ≡ n) ⊎ (m ≢ n)) (peers : 
         let k = restores_in p b tt can in
         let own = h.copies n b held in
         let same : own.peer ≡ p = same_Some own.peer p (sym own.there ∙ c.from) in
-        one_network n p (restored p b) c k.uuid
-        (λ q chosen t backups copies. restored_source p b q chosen k ((t (b ∷ []) (λ x j. elim j [ inl e ↦ subst (copy n) (sym e) held | inr none ↦ absurd none ])).copies b (inl refl)) backups (t backups copies))
-        (λ q chosen. restored_target q p b chosen k) (subst (λ z. LeadToOthers peers (uuid_of z) b.outgoing) same own.logs) (h.sessions n p c.from) h
+        one_network n p (restored p b) c
+        (one_keeps n p (restored p b) k.uuid (λ q chosen t backups copies. restored_source p b q chosen k ((t (b ∷ []) (λ x j. elim j [ inl e ↦ subst (copy n) (sym e) held | inr none ↦ absurd none ])).copies b (inl refl)) backups (t backups copies)) (λ q chosen. restored_target q p b chosen k))
+        (subst (λ z. LeadToOthers peers (uuid_of z) b.outgoing) same own.logs) (h.sessions n p c.from) h
 
     -- ---- a replication
 
@@ -271,12 +250,6 @@ module _ {K : Type 0} (decide : (m n : K) → (m ≡ n) ⊎ (m ≢ n)) (peers : 
       still_other : (own u : ℕ) → IsOther peers own u → IsOther peers' own u
       still_other own u o = ((o.0.0, o.0.1, kept o.0.0 o.0.1 o.0.2, o.0.3), o.1)
 
-      no_session : (s : SessionValue) → Among s x.sessions → ⊥
-      no_session s m = subst (Among s) a.sessions m
-
-      no_log : (l : RepId × List EntryValue) → Among l x.outgoing → ⊥
-      no_log l m = subst (Among l) a.logs m
-
       more_apart : (k l : K) (p q : PeerValue) → uuid_of p ≡ uuid_of q → Look k p → Look l q → k ≡ l
       more_apart k l p q e (inl v) (inl w) = v.0 ∙ sym w.0
       more_apart k l p q e (inl v) (inr w) = absurd (a.fresh (l, q, w.1, sym e ∙ ap uuid_of (sym v.1)))
@@ -287,11 +260,11 @@ module _ {K : Type 0} (decide : (m n : K) → (m ≡ n) ⊎ (m ≢ n)) (peers : 
       more_tied k l p q ne c backups own (inl v) (inl w) = absurd (ne (v.0 ∙ sym w.0))
       more_tied k l p q ne c backups own (inl v) (inr w) =
           subst (λ z. IsTiedWith backups z q c) v.1 (none_tied x q c
-          (λ s j r. a.fresh (subst (IsHeldBy peers) (ap (λ (i : RepId). i.source) r) (h.sessions l q w.1 s j).0)) (λ l j _. no_log l j)
+          (λ s j r. a.fresh (subst (IsHeldBy peers) (ap (λ (i : RepId). i.source) r) (h.sessions l q w.1 s j).0)) (λ l j _. subst (Among l) a.logs j)
           backups (λ b i l j _. (let y = h.copies k b (own b i) in not_there k y.peer y.there v.0)))
       more_tied k l p q ne c backups own (inr v) (inl w) =
           subst (λ z. IsTiedWith backups p z c) w.1 (none_tied p x c
-          (λ s j r. no_session s j) (λ l j r. a.fresh (subst (IsHeldBy peers) (ap (λ (i : RepId). i.target) r) (h.logs k p v.1 l j).0))
+          (λ s j r. subst (Among s) a.sessions j) (λ l j r. a.fresh (subst (IsHeldBy peers) (ap (λ (i : RepId). i.target) r) (h.logs k p v.1 l j).0))
           backups (λ b i l j r. a.fresh (subst (IsHeldBy peers) (ap (λ (i : RepId). i.target) r) ((h.copies k b (own b i)).logs l j).0)))
       more_tied k l p q ne c backups own (inr v) (inr w) = h.consistent.tied k l p q v.1 w.1 ne c backups own
 
@@ -303,11 +276,11 @@ module _ {K : Type 0} (decide : (m n : K) → (m ≡ n) ⊎ (m ≢ n)) (peers : 
         };
         copies = λ k b i. (let y = h.copies k b (less k b i) in record { peer = y.peer; there = kept k y.peer y.there; uuid = y.uuid; logs = λ l j. still_other (uuid_of y.peer) l.0.target (y.logs l j) });
         logs = λ k p at l j. elim (look k p at) [
-          | inl v ↦ absurd (no_log l (subst (λ (z : PeerValue). Among l z.outgoing) (sym v.1) j))
+          | inl v ↦ absurd (subst (Among l) (ap (λ (z : PeerValue). z.outgoing) (sym v.1) ∙ a.logs) j)
           | inr v ↦ still_other (uuid_of p) l.0.target (h.logs k p v.1 l j)
         ];
         sessions = λ k p at s j. elim (look k p at) [
-          | inl v ↦ absurd (no_session s (subst (λ (z : PeerValue). Among s z.sessions) (sym v.1) j))
+          | inl v ↦ absurd (subst (Among s) (ap (λ (z : PeerValue). z.sessions) (sym v.1) ∙ a.sessions) j)
           | inr v ↦ still_other (uuid_of p) s.rep.source (h.sessions k p v.1 s j)
         ];
       }

@@ -13,10 +13,10 @@ use Rattle.couch_base.specs.declared.fault.BaseFault.TheVariants as faults
 
 -- two trees that agree, also with the tree they grow from, agree afterwards
 module _ (by s t s' t' : TreeValue) (first : IsGrownBy s by s') (second : IsGrownBy t by t') where
-  pub Agree-both : Agree s t → Agree s by → Agree by t → Agree s' t'
+  pub Agree-both : Agree s t → Agree s by → Agree t by → Agree s' t'
   Agree-both both left right = record {
-    parents = λ c p q h k. grind (arith, common_steps, first.parents c p h, second.parents c q k, both.parents c p q, left.parents c p q, right.parents c p q);
-    contents = λ r x y h k. grind (arith, common_steps, first.contents r x h, second.contents r y k, both.contents r x y, left.contents r x y, right.contents r x y);
+    parents = λ c p q h k. grind (arith, common_steps, first.parents c p h, second.parents c q k, both.parents c p q, left.parents c p q, right.parents c q p);
+    contents = λ r x y h k. grind (arith, common_steps, first.contents r x h, second.contents r y k, both.contents r x y, left.contents r x y, right.contents r y x);
   }
 
 -- a tree with complete history stays so
@@ -49,73 +49,31 @@ module _ (t : TreeValue) (revs : List RevId) (b : ContentValue) (o other : Origi
 
 -- ---- the revisions of an edit
 
-passed : {A E : Type 0} (b : Bool) (why : E) (x y : A) → (refused_if b why >>= λ _. Ok x) ≡ Ok y → x ≡ y
-passed b why x y e = grind (arith, common_steps)
-
-chosen : {A E : Type 0} (b : Bool) (x y : A) (why : E) → cond b (Ok x) (Err why) ≡ Ok y → x ≡ y
-chosen b x y why e = grind (arith, common_steps)
-
-bound : {A B E : Type 0} (r : Result A E) (f : A → Result B E) (y : B) → (r >>= f) ≡ Ok y → (x : A) × (r ≡ Ok x) × (f x ≡ Ok y)
-bound (Ok x) f y e = (x, refl, e)
-bound (Err why) f y e = absurd (false≢true (ap is_ok e))
-
-named_ok : {A E F : Type 0} (fault : F) (r : Result A E) (a : A) → named fault r ≡ Ok a → r ≡ Ok a
-named_ok fault r a k = grind (arith, common_steps)
-
--- the revision that the edit makes, and its parent
-edit_parts : (db : DatabaseValue) (id : Id) (parent : Option RevId) (deleted : Bool) (body : List ℕ) (e : RevId × Option RevId) → edited db id parent deleted body ≡ Ok e → (parent_answer (tree_in db.docs id) parent ≡ Ok e.1) × (edit_rev e.1 deleted body ≡ Ok e.0)
-edit_parts db id parent deleted body e h =
-    let x = bound (parent_answer (tree_in db.docs id) parent) _ e h in
-    let y = bound (edit_id x.0 deleted body) _ e x.2 in
-    let same = passed (has (tree_of db.docs id) y.0) (faults.RevExists y.0) (y.0, x.0) e y.2 in (
-      x.1 ∙ ap (λ (z : RevId × Option RevId). Ok z.1) same,
-      subst (λ (z : RevId × Option RevId). edit_rev z.1 deleted body ≡ Ok z.0) same (named_ok faults.GenerationFull (edit_rev x.0 deleted body) y.0 y.1),
-    )
-
 pub edit_makes : (db : DatabaseValue) (id : Id) (parent : Option RevId) (deleted : Bool) (body : List ℕ) (e : RevId × Option RevId) → edited db id parent deleted body ≡ Ok e → edit_rev e.1 deleted body ≡ Ok e.0
-edit_makes db id parent deleted body e h = (edit_parts db id parent deleted body e h).1
-
--- the signature and the generation of the revision
-made_as : (before : Option RevId) (deleted : Bool) (body : List ℕ) (rev : RevId) → edit_rev before deleted body ≡ Ok rev → ◌≡◌ {A = RevId} (record { generation = next_generation before; sig = edit_sig before deleted body }) rev
-made_as before deleted body rev h = chosen (nat_lt (next_generation before) (2 ^ 32)) _ rev _ h
+edit_makes db id parent deleted body e h = grind (arith, common_steps)
 
 pub sig_of : (before : Option RevId) (deleted : Bool) (body : List ℕ) (rev : RevId) → edit_rev before deleted body ≡ Ok rev → edit_sig before deleted body ≡ rev.sig
-sig_of before deleted body rev h = ap (λ (y : RevId). y.sig) (made_as before deleted body rev h)
+sig_of before deleted body rev h = grind (arith, common_steps)
 
 -- the parent of the edit exists
-first : (xs : List RevId) (b : RevId) → first_of xs ≡ Some b → is_among b xs ≡ true
-first [] b e = cc
-first (x ∷ xs) b e = grind (arith, common_steps, rev_tie_self b)
-
 stands : (o : Option TreeValue) (parent : Option RevId) (b : RevId) → parent_answer o parent ≡ Ok (Some b) → has (unwrap_or o no_revisions) b ≡ true
 stands None None b h = cc
 stands None (Some parent) b h = cc
 stands (Some u) (Some parent) b h = grind (arith, common_steps)
-stands (Some u) None b h = grind (arith, common_steps, is_among-leaves u b, first (leaves u) b)
+stands (Some u) None b h = grind (arith, common_steps, is_among-leaves u b, rev_tie_self b)
 
 -- ---- its document
 
 module _ (t : TreeValue) (id : Id) (deleted : Bool) (body : List ℕ) (rev : RevId) where
   ours : (before : Option RevId) (r : RevId) → IsRoot (tree_alone (edit_document id (rev, before) deleted body)) r → is_among r (rev ∷ option_to_list before) ≡ true
-  ours before r root =
-      elim (or_cases _ _ (sym (has-merged no_revisions (rev ∷ option_to_list before) (content_of deleted body) (Local 0) r) ∙ root.0)) [
-        | inl none ↦ absurd (false≢true (sym (ap is_some (get-empty rev_cmp r)) ∙ none))
-        | inr among ↦ among
-      ]
+  ours before r root = grind (arith, common_steps, has-merged no_revisions (rev ∷ option_to_list before) (content_of deleted body) (Local 0) r, get-empty)
 
   pub rooted : (before : Option RevId) → rev.generation ≡ next_generation before → ((b : RevId) → before ≡ Some b → has t b ≡ true) → (r : RevId) → IsRoot (tree_alone (edit_document id (rev, before) deleted body)) r → (r.generation ≡ 1) ⊎ (has t r ≡ true)
   rooted None number there r root = grind (arith, common_steps, ours None r root, rev_tie_is r rev)
   rooted (Some b) number there r root = grind (arith, common_steps, ours (Some b) r root, rev_tie_is r rev, rev_tie_is r b, there b refl, alone (edges_of (rev ∷ b ∷ [])) r)
 
 pub edit_rooted : (db : DatabaseValue) (id : Id) (parent : Option RevId) (deleted : Bool) (body : List ℕ) (e : RevId × Option RevId) → edited db id parent deleted body ≡ Ok e → IsRooted db (edit_document id e deleted body)
-edit_rooted db id parent deleted body e h =
-    let x = edit_parts db id parent deleted body e h in
-    let number = sym (ap (λ (y : RevId). y.generation) (made_as e.1 deleted body e.0 x.1)) in
-    rooted (tree_of db.docs id) id deleted body e.0 e.1 number
-    (λ b at. stands (tree_in db.docs id) parent b (x.0 ∙ ap (λ o. Ok o) at))
-
-pub one_peer : (peers : List PeerValue) (n : ℕ) (p q : PeerValue) → IsAt peers n p → IsAt peers n q → p ≡ q
-one_peer peers n p q h k = ap (λ (o : Option PeerValue). unwrap_or o p) (sym h ∙ k)
+edit_rooted db id parent deleted body e h = rooted (tree_of db.docs id) id deleted body e.0 e.1 (grind (arith, common_steps)) (λ b at. stands (tree_in db.docs id) parent b (grind (arith, common_steps)))
 
 -- ---- one more document
 
@@ -137,9 +95,6 @@ put_other db d o id apart =
     cond_both (is_changed (put_answer db d)) (with_tree db d.id t) db (λ (x : DatabaseValue). tree_of x.docs id ≡ tree_of db.docs id)
     (λ _. ap (λ (x : Option TreeValue). unwrap_or x no_revisions) (tree_in-with_tree db d.id t id ∙ ap (λ b. cond b (Some t) (tree_in db.docs id)) apart))
     (λ _. refl)
-
-turned : (s t : TreeValue) → Agree s t → Agree t s
-turned s t agree = record { parents = λ c p q h k. sym (agree.parents c q p k h); contents = λ r b d h k. sym (agree.contents r d b k h) }
 
 module _ (t : TreeValue) (d : Document) (t' : TreeValue) where
   written_grown : WrittenTree t d t' → IsGrownBy t (tree_alone d) t'
@@ -177,7 +132,7 @@ module _ (peers : List PeerValue) (place : ℕ) (d : Document) (peers' : List Pe
       let x = tree_at m p a in
       let y = tree_at n q b in
       Agree-both (tree_alone d) (tree_of x.0.db.docs d.id) (tree_of y.0.db.docs d.id) (tree_of p.db.docs d.id) (tree_of q.db.docs d.id) x.2 y.2
-      (agree m n x.0 y.0 x.1 y.1) (fits m x.0 x.1) (turned (tree_of y.0.db.docs d.id) (tree_alone d) (fits n y.0 y.1))
+      (agree m n x.0 y.0 x.1 y.1) (fits m x.0 x.1) (fits n y.0 y.1)
 
   -- the tree of another document
   pub same_at : (id : Id) → bytes_eq d.id id ≡ false → (n : ℕ) (p : PeerValue) → IsAt peers' n p → (q : PeerValue) × IsAt peers n q × (tree_of p.db.docs id ≡ tree_of q.db.docs id)
@@ -221,7 +176,7 @@ module _ (peers : List PeerValue) (place : ℕ) (id : Id) (parent : Option RevId
   edited_agree : EditFits peers place id parent deleted body → (at : Id) → (r : Result (RevId × Option RevId) BaseFault) → edited w.before.db id parent deleted body ≡ r → KeepsAgreement peers peers' at
   edited_agree fits at (Ok e) is =
       wrote_agree peers place (edit_document id e deleted body) peers' (put_of e is) (fits w.before w.at e is)
-      (λ p here. subst (λ (x : PeerValue). IsRooted x.db (edit_document id e deleted body)) (one_peer peers place w.before p w.at here) (edit_rooted w.before.db id parent deleted body e is))
+      (λ p here. subst (λ (x : PeerValue). IsRooted x.db (edit_document id e deleted body)) (same_Some w.before p (sym w.at ∙ here)) (edit_rooted w.before.db id parent deleted body e is))
       at
   edited_agree fits at (Err why) is = λ agree whole. (λ m n p q a b. agree m n p q (none_of why is m p a) (none_of why is n q b), λ n p here. whole n p (none_of why is n p here))
 

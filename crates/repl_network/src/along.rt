@@ -1,9 +1,10 @@
 //! Replications in a network.
 ghost use Rattle.std.specs.Prelude.{◌≡◌, ℕ, Bool, List, ◌≢◌, ◌<◌, ◌≤◌, length, OnOk, OnErr, slice_get};
+ghost use Rattle.std.specs.List.{All};
 ghost use Rattle.repl_peer.specs.peer.Backups.{BackupValue};
 ghost use Rattle.repl_network.specs.Nets.{peers_of, filters_of, AreTied, IsNet, Spread, FitsIn, IsRootedAt, EditFits, KeepsAgreement};
 ghost use Rattle.repl_network.specs.Made.{StaysMade, StaysMadeByEdit, StaysMadeExcept};
-ghost use Rattle.repl_network.specs.Hopped.{Carried, Hopped, Ended, AllHopped, AllLawful, IsChangedAt};
+ghost use Rattle.repl_network.specs.Hopped.{Carried, Ended, AllHopped, IsChangedAt};
 ghost use Rattle.repl_network.specs.Taken.{IsHop, TakesHop, TakesHops, AnswersAt};
 ghost use Rattle.repl_target.specs.replication.Replication.{Replicates};
 ghost use Rattle.couch_base.specs.Put.{PutGives, put_answer};
@@ -45,10 +46,8 @@ pub fn replicate_along<F: WriteFilter>(
         (AreTied (peers_of peers.old) → Spread (peers_of peers.old) hops.now (peers_of peers.new)) }
 {
     hold_laws(peers);
-    let mut at = 0;
-    for hop in hops {
+    for (at, hop) in hops.iter().enumerate() {
         take_hop(alloc, peers, at, hop)?;
-        at += 1;
     }
     Ok(())
 }
@@ -123,7 +122,7 @@ pub fn edit_at<F: WriteFilter>(
 
 /// Makes the invariant of each peer's database available to proofs, and has no effect at run time.
 fn hold_laws<F: WriteFilter>(peers: &[Peer<F>])
-    ensures { AllLawful (peers_of peers.now) }
+    ensures { All (λ p. LawfulDatabase p.1.db) peers.now }
 {
     for peer in peers {
         peer.law();
@@ -171,7 +170,10 @@ fn carry<F: WriteFilter>(
     requires two { hop.now.from ≢ hop.now.to }
     ensures hop { IsHop F.refuses peers.old hop.now result peers.new }
     ensures filters { filters_of peers.new ≡ filters_of peers.old }
-    ensures hopped { Hopped (peers_of peers.old) hop.now (peers_of peers.new) }
+    ensures tied { AreTied (peers_of peers.old) → AreTied (peers_of peers.new) }
+    ensures net { (backups : List (ℕ × BackupValue)) → IsNet backups (peers_of peers.old)
+        → IsNet backups (peers_of peers.new) }
+    ensures made { StaysMade (peers_of peers.old) (peers_of peers.new) }
     ensures ended { OnOk result (Ended (peers_of peers.old) hop.now (peers_of peers.new)) }
 {
     if hop.from < hop.to {

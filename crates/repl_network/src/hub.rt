@@ -54,21 +54,17 @@ fn hub_hops(alloc: Global, there: &[Plan], back: &[Plan]) -> Result<Vec<Hop>, Al
     ensures { IfOk result (λ hops. hops.items ≡ gathers 0 there.now ++ spreads 0 back.now) }
 {
     let mut hops = Vec::new(alloc);
-    let mut place = 0;
-    for plan in there {
-        place += 1;
+    for (place, plan) in there.iter().enumerate() {
         hops.push(Hop {
-            from: place,
+            from: place + 1,
             to: 0,
             plan: plan.copy()?,
         })?;
     }
-    let mut place = 0;
-    for plan in back {
-        place += 1;
+    for (place, plan) in back.iter().enumerate() {
         hops.push(Hop {
             from: 0,
-            to: place,
+            to: place + 1,
             plan: plan.copy()?,
         })?;
     }

@@ -1,5 +1,6 @@
 //! Networks.
 ghost use Rattle.std.specs.Prelude.{◌≡◌, [], ◌∷◌, ◌++◌, IfNone, IfSome, OnOk, OnErr};
+ghost use Rattle.repl_peer.specs.peer.Peer.{new_peer};
 ghost use Rattle.repl_network.specs.Nets.{peers_of, filters_of, IsHeldAt, IsHeld};
 
 use crate::along::{edit_at, load_at, replicate_along};
@@ -44,7 +45,6 @@ impl<F: WriteFilter> Net<F> {
     ghost use Rattle.std.specs.Prelude.{Bool, List, Option, length, slice_get, IfOk, IfErr};
     ghost use Rattle.std.specs.Option.{option_copied};
     ghost use Rattle.couch_base.specs.Database.{Id};
-    ghost use Rattle.repl_peer.specs.peer.Peer.{new_peer};
     ghost use Rattle.repl_peer.specs.peer.Writing.{after_load, after_edit};
     ghost use Rattle.repl_target.specs.declared.auditing.found.Audit.TheVariants.{Clean};
     ghost use Rattle.repl_network.specs.Nets.{IsNet, Spread, FitsIn, IsRootedAt, EditFits, KeepsAgreement};
@@ -85,7 +85,7 @@ impl<F: WriteFilter> Net<F> {
             return Err(NetFault::SameUuid(place));
         }
         let place = self.peers.len();
-        put_peer(&mut self.peers, Peer::new(alloc, uuid, filter))?;
+        put_peer(&mut self.peers, alloc, uuid, filter)?;
         Ok(place)
     }
 
@@ -200,14 +200,16 @@ fn place_of<F: WriteFilter>(peers: &[Peer<F>], uuid: u128) -> Option<usize>
     None
 }
 
-/// Appends a peer.
+/// Appends a new peer.
 fn put_peer<F: WriteFilter + Drop>(
     peers: &mut Vec<Peer<F>>,
-    peer: Peer<F>,
+    alloc: Global,
+    uuid: u128,
+    filter: F,
 ) -> Result<(), AllocError>
-    ensures ok { OnOk result (peers.new.items ≡ peers.old.items ++ peer ∷ []) }
+    ensures ok { OnOk result (peers.new.items ≡ peers.old.items ++ (filter, new_peer uuid) ∷ []) }
     ensures err { OnErr result (peers.new.items ≡ peers.old.items) }
 {
-    peers.push(peer)?;
+    peers.push(Peer::new(alloc, uuid, filter))?;
     Ok(())
 }

@@ -1,8 +1,8 @@
 -- Backups by name, and the errors of backups and restores.
-use Rattle.proof_prelude.proofs.{◌≡◌, ◌⊎◌, arith, common_steps, true, Option, Some, is_some, Result, Ok, Err, refl, ◌&&◌, List, [], ◌∷◌, ◌++◌, lookup, map-append, string_bytes, string_eq}
+use Rattle.proof_prelude.proofs.{◌≡◌, ◌⊎◌, arith, common_steps, Result, Ok, Err, refl, ◌&&◌, List, [], ◌∷◌, ◌++◌, lookup, map-append, string_bytes, string_eq}
 use Rattle.repl_peer.specs.{PeerValue, GivesUnlessMemory, BackupValue, restore_answer, restored_by, after_restore, TargetFault}
 use Rattle.repl_network.proofs.{restores_in}
-use Rattle.script_databases.specs.{backed_of, backed_told, NamedBackupValue, backup_among, copies_of}
+use Rattle.script_databases.specs.{NamedBackupValue, backup_among, copies_of}
 use Rattle.std.proofs.lemmas.Cmp.{nat_list_eq_equiv}
 use Rattle.script_databases.specs.declared.backups.BackupName.{BackupName}
 use Rattle.repl_peer.specs.declared.fault.TargetFault.TheVariants as faults
@@ -19,10 +19,6 @@ restore_keeps b p = go (restore_answer p b) refl
     go : (r : Result (Unit {0}) TargetFault) → restore_answer p b ≡ r → (restored_by p b r).db.uuid ≡ p.db.uuid
     go (Err fault) k = refl
     go (Ok done) k = (restores_in p b done k).uuid
-
--- a name in use
-pub taken_refused : (p : PeerValue) (o : Option BackupValue) → is_some o ≡ true → backed_told (backed_of (Some p) o) ≡ Err why.BackupExists
-taken_refused p o h = grind (arith, common_steps)
 
 abbrev copy_of : BackupName × BackupValue → NamedBackupValue
 copy_of e = record { db = string_bytes e.0.db; name = string_bytes e.0.name; backup = e.1 }

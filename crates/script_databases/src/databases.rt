@@ -115,6 +115,7 @@ impl Databases {
     }
 
     /// Returns the peer with a given name, if it exists.
+    #[tactic(auto, using(crate::proofs::Tables::peer_of))]
     pub fn find(&self, name: &str) -> Option<&Peer<Rules>>
         ensures { option_map (λ p. p.1) (option_copied result) ≡ peer_at self.now name.now }
     {
@@ -122,6 +123,7 @@ impl Databases {
     }
 
     /// Whether a peer with a given name exists.
+    #[tactic(auto, using(crate::proofs::Tables::has_at))]
     pub fn has(&self, name: &str) -> bool
         ensures { result ≡ contains_key self.now.peers name.now }
     {
@@ -185,6 +187,7 @@ impl Databases {
     /// # Errors
     ///
     /// The call returns `NoDatabase` if the name is unknown, and otherwise the error of the database.
+    #[tactic(auto, using(crate::proofs::Tables::peer_of))]
     pub fn load(&mut self, name: &str, doc: &Doc) -> Result<Put, Refusal>
         ensures answer { GivesOrMemory result (load_answer (peer_at self.old name.now) doc.now) }
         ensures ok { OnOk result (self.new ≡ loaded_at self.old name.now doc.now) }
@@ -203,6 +206,7 @@ impl Databases {
     /// # Errors
     ///
     /// The call returns `NoDatabase` if the name is unknown, and otherwise the error of the database.
+    #[tactic(auto, using(crate::proofs::Tables::peer_of))]
     pub fn edit(
         &mut self,
         name: &str,
@@ -264,6 +268,7 @@ impl Databases {
     /// - `NoBackup`: the database has no backup of the name `name`.
     /// - `IsTarget`: the database has been a replication target.
     /// - `LifeFull`: no life is left for the restored database.
+    #[tactic(auto, using(crate::proofs::Tables::peer_of))]
     pub fn put_back(&mut self, db: &str, name: &str) -> Result<PutBack, Refusal>
         ensures answer { GivesOrMemory result
             (put_back_answer (peer_at self.old db.now) (backup_at self.old db.now name.now)) }

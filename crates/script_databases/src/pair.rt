@@ -11,6 +11,7 @@ use std::alloc::Global;
 use std::mem;
 
 /// Returns the peers of two existing names.
+#[tactic(auto, using(crate::proofs::Tables::has_at))]
 pub fn find_both<'a>(
     names: &'a Names,
     source: &str,

@@ -8,24 +8,9 @@ use Rattle.command_api.specs.{seen_as}
 use Rattle.command_api.specs.Checks.{needed}
 use Rattle.command_api.specs.Members.{text_at}
 use Rattle.command_api.proofs.{bound}
-use Rattle.commands.specs.{Asked, CommandName, WordsAnswer, asked_as, asked_in, load, edit, show, doc, changes, log, audit, replicate, backup, restore, compare, conflicts, docs, info, ledger, sync, IsTrusted}
+use Rattle.commands.specs.{Asked, CommandName, WordsAnswer, asked_as, asked_in, audit, replicate, restore, sync, IsTrusted}
 use Rattle.commands.specs.words.{asked_by}
 use Rattle.commands.specs.declared.words.CommandName.TheVariants as word
-use Rattle.write_commands.specs.Load.{load_in}
-use Rattle.write_commands.specs.Edit.{edit_in}
-use Rattle.read_commands.specs.Show.{show_in}
-use Rattle.read_commands.specs.Doc.{doc_in}
-use Rattle.read_commands.specs.Changes.{changes_in}
-use Rattle.read_commands.specs.Log.{log_in}
-use Rattle.read_commands.specs.Audit.{audit_in}
-use Rattle.write_commands.specs.Replicate.{replicate_in}
-use Rattle.write_commands.specs.Backup.{backup_in}
-use Rattle.write_commands.specs.Restore.{restore_in}
-use Rattle.read_commands.specs.Compare.{compare_in}
-use Rattle.read_commands.specs.Conflicts.{conflicts_in}
-use Rattle.read_commands.specs.Docs.{docs_in}
-use Rattle.read_commands.specs.Info.{info_in}
-use Rattle.read_commands.specs.Ledger.{ledger_in}
 use Rattle.write_commands.specs.Sync.{sync_in}
 use Rattle.write_commands.proofs.{AreTurned, restores_known, reports_covered, sync_turned, syncs_met}
 use Rattle.read_commands.proofs.{audits_clean}
@@ -41,22 +26,8 @@ seen_turned f (Ok k) h asked e = subst IsTurned (same_Ok (f k) asked e) (h k ref
 seen_turned f (Err refusal) h asked e = cc
 
 as_turned : (w : CommandName) (d : Data) (asked : Asked) → asked_as w d ≡ Ok asked → IsTurned asked
-as_turned word.Load d = seen_turned load (load_in d) (λ _ _. tt)
-as_turned word.Edit d = seen_turned edit (edit_in d) (λ _ _. tt)
-as_turned word.Show d = seen_turned show (show_in d) (λ _ _. tt)
-as_turned word.Doc d = seen_turned doc (doc_in d) (λ _ _. tt)
-as_turned word.Changes d = seen_turned changes (changes_in d) (λ _ _. tt)
-as_turned word.Log d = seen_turned log (log_in d) (λ _ _. tt)
-as_turned word.Audit d = seen_turned audit (audit_in d) (λ _ _. tt)
-as_turned word.Replicate d = seen_turned replicate (replicate_in d) (λ _ _. tt)
-as_turned word.Backup d = seen_turned backup (backup_in d) (λ _ _. tt)
-as_turned word.Restore d = seen_turned restore (restore_in d) (λ _ _. tt)
-as_turned word.Compare d = seen_turned compare (compare_in d) (λ _ _. tt)
-as_turned word.Conflicts d = seen_turned conflicts (conflicts_in d) (λ _ _. tt)
-as_turned word.Docs d = seen_turned docs (docs_in d) (λ _ _. tt)
-as_turned word.Info d = seen_turned info (info_in d) (λ _ _. tt)
-as_turned word.Ledger d = seen_turned ledger (ledger_in d) (λ _ _. tt)
 as_turned word.Sync d = seen_turned sync (sync_in d) (sync_turned d)
+as_turned w d = seen_turned _ _ (λ _ _. tt)
 
 either : (b : Bool) (w : CommandName) (d : Data) (rest : Result Asked Refusal) → ((asked : Asked) → rest ≡ Ok asked → IsTurned asked) → (asked : Asked) → (if b then asked_as w d else rest) ≡ Ok asked → IsTurned asked
 either true w d rest h = as_turned w d

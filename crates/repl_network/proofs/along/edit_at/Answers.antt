@@ -1,11 +1,9 @@
-use Rattle.proof_prelude.proofs.{Ok, Err, refl, sym, subst, inl, inr, arith, length-map}
+use Rattle.std.proofs.Math.Seq.{map-set_same}
+use Rattle.proof_prelude.proofs.{◌≡◌, slice_set, Ok, Err, refl, sym, subst, inr}
 use Rattle.repl_peer.specs.{after_edit}
 use Rattle.repl_network.specs.{peers_of, AreTied, IsNet, KeepsAgreement, AllMadeBy}
-use Rattle.repl_network.proofs.{map_set, changed_at, there_at, edit_writes, wrote_tied, wrote_net, edit_agree, edit_made}
+use Rattle.repl_network.proofs.{changed_at, there_at, edit_writes, wrote_tied, wrote_net, edit_agree, edit_made}
 use Rattle.repl_network.proofs.along.edit_at.Goals as goal
-
-pub returns-then-place-peers-clause-answer : goal.returns-then-place-peers-clause-answer
-returns-then-place-peers-clause-answer g c = (let mapped = length-map c.args.peers.now (λ p. p.1) in inl (omega (arith, mapped, c.if-place-peers.true), refl))
 
 pub returns-in-Ok : goal.returns-in-Ok
 returns-in-Ok g c =
@@ -13,7 +11,7 @@ returns-in-Ok g c =
     let writes = edit_writes c.args.id.now c.args.parent c.args.deleted c.args.body.now in
     record {
       answer = inr (_, there_at c.args.peers.now c.args.place c.index-peers-place.result c.if-place-peers.false, Ok c.in-Ok.rev, c.in-Ok.ensures.answer, refl);
-      filters = map_set c.args.peers.now (λ p. p.0) c.args.place c.index-peers-place.result c.edit.new.self c.if-place-peers.false c.edit.ensures.filter;
+      filters = map-set_same _ c.args.peers.now c.args.place c.edit.new.self c.index-peers-place.result c.edit.ensures.filter;
       tied = wrote_tied (peers_of c.args.peers.now) c.args.place _ _ writes changed;
       net = wrote_net (peers_of c.args.peers.now) c.args.place _ _ writes changed;
       ok = changed;
@@ -24,10 +22,10 @@ returns-in-Ok g c =
 
 pub returns-in-Err : goal.returns-in-Err
 returns-in-Err g c =
-    let kept = map_set c.args.peers.now (λ p. p.1) c.args.place c.index-peers-place.result c.edit.new.self c.if-place-peers.false c.in-Err.ensures.err in
+    let kept : peers_of (slice_set c.args.peers.now c.args.place c.edit.new.self) ≡ peers_of c.args.peers.now = map-set_same _ c.args.peers.now c.args.place c.edit.new.self c.index-peers-place.result c.in-Err.ensures.err in
     record {
       answer = inr (_, there_at c.args.peers.now c.args.place c.index-peers-place.result c.if-place-peers.false, Err c.in-Err.fault, c.in-Err.ensures.answer, refl);
-      filters = map_set c.args.peers.now (λ p. p.0) c.args.place c.index-peers-place.result c.edit.new.self c.if-place-peers.false c.edit.ensures.filter;
+      filters = map-set_same _ c.args.peers.now c.args.place c.edit.new.self c.index-peers-place.result c.edit.ensures.filter;
       tied = λ net. subst AreTied (sym kept) net;
       net = λ backups net. subst (IsNet backups) (sym kept) net;
       ok = tt;

@@ -1,9 +1,7 @@
-use Rattle.proof_prelude.proofs.{ℕ, ◌<◌}
+use Rattle.proof_prelude.proofs.{All, take}
 use Rattle.couch_base.specs.{LawfulDatabase}
-use Rattle.repl_peer.specs.{PeerValue}
-use Rattle.repl_network.specs.{peers_of, IsAt}
 use Rattle.repl_network.proofs.along.hold_laws.Given as goal
 
 -- the peers so far satisfy it
 abbrev pub invariant-loop-peer : goal.invariant-loop-peer
-invariant-loop-peer g l = (n : ℕ) (p : PeerValue) → n < l.peer-index → IsAt (peers_of l.peers) n p → LawfulDatabase p.db
+invariant-loop-peer g l = All (λ p. LawfulDatabase p.1.db) (take l.peer-index l.peers)

@@ -3,20 +3,8 @@ use Rattle.rev_tree.proofs.{is_some-copied, none_of}
 use Rattle.couch_base.specs.{DatabaseValue}
 use Rattle.repl_peer.specs.{backup_answer, copy_of}
 use Rattle.script_databases.specs.{IsConsistent, State, NamedBackupValue, peer_at, backup_among, backup_at, with_backup, backed_of, backed_answer, backed_told, backed_by, told_as, target_refusal, beside_of, state_of}
-use Rattle.script_databases.proofs.{copy_refused, taken_refused, backed_is, backed_step}
+use Rattle.script_databases.proofs.{copy_refused, backed_is, backed_step}
 use Rattle.script_databases.proofs.databases.Databases.back_up.Goals as goal
-
-pub returns-in_default-clause-answer : goal.returns-in_default-clause-answer
-returns-in_default-clause-answer c =
-    let none = sym c.find.ensures ∙ ap (λ o. option_map (λ p. p.1) (option_copied o)) c.in_default.is in
-    inl (ap (λ o. backed_told (backed_of o (backup_at c.args.self.now c.args.db.now c.args.name.now))) none)
-
-pub returns-then-is_some-clause-answer : goal.returns-then-is_some-clause-answer
-returns-then-is_some-clause-answer c =
-    let there = sym c.find.ensures ∙ ap (λ o. option_map (λ p. p.1) (option_copied o)) c.in-Some.is in
-    let kept = sym (c.find-2.ensures ∙ (λ i. backup_among c.self.inside.backups (c.in_ok-key.ensures.db i) (c.in_ok-key.ensures.name i)) ∙ ap (λ (s : State). backup_at s c.args.db.now c.args.name.now) c.self.view_is) in
-    inl (ap (λ o. backed_told (backed_of o (backup_at c.args.self.now c.args.db.now c.args.name.now))) there
-    ∙ taken_refused c.in-Some.peer.now.1 (backup_at c.args.self.now c.args.db.now c.args.name.now) (ap (λ o. is_some o) kept ∙ sym (is_some-copied c.find-2.result) ∙ sym c.is_some.ensures ∙ c.if-is_some.true))
 
 pub returns-in-Err-clause-answer : goal.returns-in-Err-clause-answer
 returns-in-Err-clause-answer c =

@@ -1,14 +1,9 @@
-use Rattle.proof_prelude.proofs.{arith, common_steps, ◌≡◌, inl, sym, ap, ◌∙◌, rules, subst, None, Some, Result, OnErr, OnOk}
+use Rattle.proof_prelude.proofs.{arith, common_steps, ◌≡◌, sym, rules, subst, Some, Result, OnErr, OnOk}
 use Rattle.repl_peer.specs.{PeerValue, after_edit}
 use Rattle.repl_network.proofs.{edit_writes}
 use Rattle.script_databases.specs.{IsStored, State, edited_answer, edited_as, edited_at, peer_at, GivesOrMemory, Edited, Refusal, beside_of, state_of}
 use Rattle.script_databases.proofs.{at_of, changes, edit_gives, stays, stored_written, writes_of}
 use Rattle.script_databases.proofs.databases.Databases.edit.Goals as goal
-
-pub returns-in_default-clause-answer : goal.returns-in_default-clause-answer
-returns-in_default-clause-answer c =
-    let g = beside_of c.self.inside.settings c.self.inside.drawn c.self.inside.backups in
-    inl (ap (λ o. edited_answer o c.args.id.now c.args.parent c.args.deleted c.args.body.now) (ap (λ (s : State). peer_at s c.args.name.now) (sym c.self.view_is) ∙ at_of c.self.inside.by_name.entries c.args.name.now None (sym c.in_default.ensures.value)))
 
 pub returns : goal.returns
 returns c =

@@ -1,19 +1,9 @@
-use Rattle.proof_prelude.proofs.{arith, common_steps, ◌≡◌, Some, None, inl, sym, ap, ◌∙◌, rules, subst, option_copied, Result, OnErr, OnOk}
+use Rattle.proof_prelude.proofs.{arith, common_steps, ◌≡◌, Some, sym, ap, ◌∙◌, rules, subst, option_copied, Result, OnErr, OnOk}
 use Rattle.repl_peer.specs.{after_restore}
 use Rattle.script_databases.specs.{IsStored, State, backup_among, backup_at, peer_at, put_back_answer, put_back_by, put_back_of, GivesOrMemory, Refusal, target_refusal, told_as, beside_of, state_of}
 use Rattle.script_databases.specs.declared.databases.PutBack.{PutBack}
 use Rattle.script_databases.proofs.{at_of, changes, restore_gives, restore_step, restore_uuid, stays, stored}
 use Rattle.script_databases.proofs.databases.Databases.put_back.Goals as goal
-
-pub returns-in_default-clause-answer : goal.returns-in_default-clause-answer
-returns-in_default-clause-answer c =
-    let kept = c.find.ensures ∙ (λ i. backup_among c.self.inside.backups (c.in_ok-key.ensures.db i) (c.in_ok-key.ensures.name i)) ∙ ap (λ (s : State). backup_at s c.args.db.now c.args.name.now) c.self.view_is in
-    inl (ap (put_back_answer (peer_at c.args.self.now c.args.db.now)) (sym kept ∙ ap option_copied c.in_default.is) ∙ sym c.missing.ensures)
-
-pub returns-in_default-get_mut-clause-answer : goal.returns-in_default-get_mut-clause-answer
-returns-in_default-get_mut-clause-answer c =
-    let g = beside_of c.self.inside.settings c.self.inside.drawn c.self.inside.backups in
-    inl (ap (λ o. put_back_answer o (backup_at c.args.self.now c.args.db.now c.args.name.now)) (ap (λ (s : State). peer_at s c.args.db.now) (sym c.self.view_is) ∙ at_of c.self.inside.by_name.entries c.args.db.now None (sym c.in_default-get_mut.ensures.value)))
 
 pub returns : goal.returns
 returns c =
