@@ -36,7 +36,7 @@ impl Wording {
     pub fn loads(alloc: Global, db: &str) -> Result<Wording, AllocError>
         ensures { IfOk result (λ wording. words_of_wording wording ≡ loads_of db.now) }
     {
-        let begins = three(
+        let begins = concatenated(
             alloc,
             b"{\"do\":\"load\",\"db\":\"",
             db.as_bytes(),
@@ -67,7 +67,7 @@ impl Wording {
     pub fn docs(alloc: Global, db: &str) -> Result<Wording, AllocError>
         ensures { IfOk result (λ wording. words_of_wording wording ≡ docs_of db.now) }
     {
-        let begins = three(
+        let begins = concatenated(
             alloc,
             b"{\"do\":\"doc\",\"db\":\"",
             db.as_bytes(),
@@ -311,7 +311,7 @@ fn more(count: u64) -> u64
 }
 
 /// Concatenates three texts.
-fn three(alloc: Global, one: &[u8], two: &[u8], last: &[u8]) -> Result<Vec<u8>, AllocError>
+fn concatenated(alloc: Global, one: &[u8], two: &[u8], last: &[u8]) -> Result<Vec<u8>, AllocError>
     ensures { IfOk result (λ joined. joined.items ≡ one.now ++ (two.now ++ last.now)) }
 {
     let mut joined = Vec::from_slice(alloc, one)?;
