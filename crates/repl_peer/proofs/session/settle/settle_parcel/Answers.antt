@@ -51,7 +51,7 @@ mark_window-marked-requires g c =
     let grown = grown_by _ _ before _ _ _ _ (reached_whole _ _ before _ _ all) in
     record {
       documents = passed_stored _ _ before _ _ _ _ _ all
-          (elim c.stored_docs-stored.ensures [ inl both ↦ inl (both.0, both.1 ∙ c.deref-2.ensures.value ∙ sym c.deref.ensures.value) | inr none ↦ inr none ])
+          (elim c.stored_docs-stored.ensures [ inl both ↦ inl (both.0, both.1 ∙ c.deref-2.ensures.value ∙ sym c.deref.ensures.value) | inr none ↦ inr none.1 ])
           (ap (λ (s : SessionValue). s.counts.failures) c.session.view_is) (ap (λ (s : SessionValue). s.counts.failures) c.session-2.view_is);
       stored = (
         p.window,
