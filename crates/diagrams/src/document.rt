@@ -130,8 +130,9 @@ impl Document {
 
     /// Sorts the leaves for drawing.
     pub fn sort(&mut self) -> Result<(), AllocError>
-        ensures leaves { IsPermutation (states self.old) (states self.new) }
+        ensures leaves { IsPermutation self.old.leaves.items self.new.leaves.items }
         ensures id { self.new.id ≡ self.old.id }
+        ensures count { self.new.count ≡ self.old.count }
         ensures ancestries { self.new.ancestries ≡ self.old.ancestries }
         ensures sorted { OnOk result (IsSorted (leaf_cmp self.new.ancestries) self.new.leaves.items) }
     {

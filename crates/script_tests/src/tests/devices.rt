@@ -1,9 +1,11 @@
 //! Readers and writers that transfer few bytes per call and fail at a chosen call.
 
 use crate::tests::engine::{ANSWERS, LINES, Lengths};
-use script_engine::{OverRead, OverWrite, ScriptFault, ScriptRead, ScriptWrite, run_lines};
+use script_engine::{
+    OverRead, OverWrite, Recorder, ScriptFault, ScriptRead, ScriptWrite, run_lines,
+};
 use std::io;
-use std::io::ErrorKind;
+use std::io::{ErrorKind, Write};
 use std::test::Fail;
 
 /// A reader that returns a few bytes per call, and fails at a chosen call.
@@ -193,6 +195,41 @@ fn answers_go_out_before_each_read(rt: HostRuntime) -> Result<(), Fail> {
             sent.as_bytes(),
             "at {flushes_left}"
         );
+    }
+    Ok(())
+}
+
+/// A `std` writer that accepts all bytes, and fails at a chosen flush.
+#[derive(Drop)]
+struct FlushCounter {
+    flushes_left: u64,
+}
+
+impl Write for FlushCounter {
+    fn write(&mut self, bytes: &[u8]) -> io::Result<usize> {
+        Ok(bytes.len())
+    }
+
+    fn flush(&mut self) -> io::Result<()> {
+        if self.flushes_left == 0 {
+            return Err(io::Error::from(ErrorKind::Other));
+        }
+        self.flushes_left -= 1;
+        Ok(())
+    }
+}
+
+/// `Recorder` passes each of the three flushes to its writer.
+#[test]
+fn recorder_flushes_its_writer(rt: HostRuntime) -> Result<(), Fail> {
+    for flushes_left in 0..=3 {
+        let mut server = Lengths { before: 0 };
+        let mut reader = OverRead::new(LINES.as_bytes());
+        let recorder = Recorder::new(FlushCounter { flushes_left });
+        let mut writer = OverWrite::new(rt.alloc(), recorder)?;
+        let ended = run_lines(rt.alloc(), &mut server, &mut reader, &mut writer);
+        let faulted = matches!(ended, Err(ScriptFault::Write));
+        assert_eq!(rt; faulted, flushes_left < 3, "at {flushes_left}");
     }
     Ok(())
 }

@@ -1,12 +1,8 @@
-use Rattle.proof_prelude.proofs.{IsPermutation-map, always_returns_same, on_ok_weaker, ranks_by, is_lt, rules}
+use Rattle.proof_prelude.proofs.{always_returns_same, on_ok_weaker, ranks_by, is_lt, rules}
 use Rattle.diagrams.specs.declared.document.Leaf.{Leaf}
-use Rattle.diagrams.specs.Drawing.{state_of}
 use Rattle.diagrams.specs.Shapes.{leaf_cmp}
 use Rattle.diagrams.proofs.LeafOrder.{leaf_cmp_total}
 use Rattle.diagrams.proofs.document.Document.sort.Goals as goal
-
-pub returns-clause-leaves : goal.returns-clause-leaves
-returns-clause-leaves c = IsPermutation-map state_of _ _ c.sort_by.ensures.permutation
 
 pub returns-clause-sorted : goal.returns-clause-sorted
 returns-clause-sorted c =
