@@ -11,6 +11,7 @@
 mod revisions;
 
 // JSON values.
+mod plain;
 mod values;
 
 // Envelopes.
