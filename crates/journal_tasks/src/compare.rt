@@ -1,5 +1,6 @@
 //! The task that compares two lists of leaves.
-ghost use Rattle.std.specs.Prelude.{◌≡◌, ◌++◌, ◌||◌, ◌∷◌, [], if◌then◌else◌, List, OnErr, OnOk, IfOk, Some, bytes_eq, filter, flat_map, is_some, map, not, unwrap_or, false, true, ℕ};
+ghost use Rattle.std.specs.Prelude.{◌≡◌, ◌++◌, ◌||◌, ◌∷◌, [], if◌then◌else◌, List, OnErr, OnOk, IfErr, IfOk, Some, bytes_eq, filter, flat_map, is_some, map, not, unwrap_or, false, true, ℕ};
+ghost use Rattle.script_engine.specs.Faults.{IsFaultOf};
 ghost use Rattle.std.specs.List.{list_any};
 ghost use Rattle.std.specs.Io.KnownBytes.{Appends};
 ghost use Rattle.line_reader.specs.Tasks.{HasPrinted, HasPrintedPart};
@@ -253,6 +254,10 @@ pub fn compare_lists<R: ScriptRead, W: ScriptWrite>(
         × Appends (W.held writer.old) (W.held writer.new) text
         × HasPrintedPart (IsComparing documents) (HasCompared documents) (R.ended reader.new) input text) }
     ensures ended { OnOk result (R.ended reader.new) }
+    ensures counted { OnOk result ((R.failures reader.new ≡ R.failures reader.old)
+        × (W.failures writer.new ≡ W.failures writer.old)) }
+    ensures fault { IfErr result (λ fault. IsFaultOf fault (R.reads reader.old) (R.reads reader.new)
+        (R.failures reader.old) (R.failures reader.new) (W.failures writer.old) (W.failures writer.new)) }
 {
     let mut task = Compare::new(alloc, documents);
     match run_task(alloc, &mut task, reader, writer) {

@@ -1,5 +1,6 @@
 //! The task that finds out which part of a journal the journal's checksums confirm.
-ghost use Rattle.std.specs.Prelude.{◌≡◌, ◌⊎◌, ◌++◌, ◌∷◌, ◌&&◌, [], ℕ, List, IfOk, OnErr, OnOk, Some, codes, decimal, is_none, is_some, length, not, option_map};
+ghost use Rattle.std.specs.Prelude.{◌≡◌, ◌⊎◌, ◌++◌, ◌∷◌, ◌&&◌, [], ℕ, List, IfErr, IfOk, OnErr, OnOk, Some, codes, decimal, is_none, is_some, length, not, option_map};
+ghost use Rattle.script_engine.specs.Faults.{IsFaultOf};
 ghost use Rattle.std.specs.Io.KnownBytes.{Appends};
 ghost use Rattle.line_reader.specs.Tasks.{HasPrinted, HasPrintedPart};
 ghost use Rattle.journal_core.specs.Places.{IsAt, Place, is_confirmed};
@@ -281,6 +282,10 @@ pub fn confirm_journal<R: ScriptRead, W: ScriptWrite>(
         × ((text ≡ []) ⊎ HasPrintedPart (IsConfirming (option_map (λ at. at.now) at.entry))
         (HasConfirmed (option_map (λ at. at.now) at.entry)) (R.ended reader.new) input text)) }
     ensures ended { OnOk result (R.ended reader.new) }
+    ensures counted { OnOk result ((R.failures reader.new ≡ R.failures reader.old)
+        × (W.failures writer.new ≡ W.failures writer.old)) }
+    ensures fault { IfErr result (λ fault. IsFaultOf fault (R.reads reader.old) (R.reads reader.new)
+        (R.failures reader.old) (R.failures reader.new) (W.failures writer.old) (W.failures writer.new)) }
 {
     let mut task = Confirm::new(alloc, at)?;
     match run_task(alloc, &mut task, reader, writer) {

@@ -1,5 +1,6 @@
 //! The task that prints the documents with several live leaves.
-ghost use Rattle.std.specs.Prelude.{◌≡◌, ◌+◌, ◌++◌, [], ℕ, List, IfOk, OnErr, OnOk, bytes_eq, codes, decimal, filter, flat_map, fold, if◌then◌else◌, length, map, nat_eq, not, string_bytes};
+ghost use Rattle.std.specs.Prelude.{◌≡◌, ◌+◌, ◌++◌, [], ℕ, List, IfErr, IfOk, OnErr, OnOk, bytes_eq, codes, decimal, filter, flat_map, fold, if◌then◌else◌, length, map, nat_eq, not, string_bytes};
+ghost use Rattle.script_engine.specs.Faults.{IsFaultOf};
 ghost use Rattle.std.specs.List.{list_any};
 ghost use Rattle.std.specs.Io.KnownBytes.{Appends};
 ghost use Rattle.line_reader.specs.Tasks.{EndsBy, HasPrinted, HasPrintedPart, StepsBy};
@@ -339,6 +340,10 @@ pub fn list_conflicts<R: ScriptRead, W: ScriptWrite>(
         × Appends (W.held writer.old) (W.held writer.new) text
         × HasPrintedPart IsConflicting HasConflicts (R.ended reader.new) input text) }
     ensures ended { OnOk result (R.ended reader.new) }
+    ensures counted { OnOk result ((R.failures reader.new ≡ R.failures reader.old)
+        × (W.failures writer.new ≡ W.failures writer.old)) }
+    ensures fault { IfErr result (λ fault. IsFaultOf fault (R.reads reader.old) (R.reads reader.new)
+        (R.failures reader.old) (R.failures reader.new) (W.failures writer.old) (W.failures writer.new)) }
 {
     let mut task = Conflicts::new(alloc);
     match run_task(alloc, &mut task, reader, writer) {

@@ -1,5 +1,6 @@
 //! The task that writes a `_revs_diff` request. The request asks a server which leaves of a list are missing there.
-ghost use Rattle.std.specs.Prelude.{◌≡◌, ◌++◌, [], ◌∷◌, List, OnErr, OnOk, IfOk, codes, flat_map, map, not, ℕ};
+ghost use Rattle.std.specs.Prelude.{◌≡◌, ◌++◌, [], ◌∷◌, List, OnErr, OnOk, IfErr, IfOk, codes, flat_map, map, not, ℕ};
+ghost use Rattle.script_engine.specs.Faults.{IsFaultOf};
 ghost use Rattle.std.specs.Io.KnownBytes.{Appends};
 ghost use Rattle.json.specs.Token.{string};
 ghost use Rattle.line_reader.specs.Tasks.{EndsBy, HasPrinted, HasPrintedPart, StepsBy};
@@ -178,6 +179,10 @@ pub fn diff_leaves<R: ScriptRead, W: ScriptWrite>(
         × Appends (W.held writer.old) (W.held writer.new) text
         × HasPrintedPart IsDiffing HasDiffed (R.ended reader.new) input text) }
     ensures ended { OnOk result (R.ended reader.new) }
+    ensures counted { OnOk result ((R.failures reader.new ≡ R.failures reader.old)
+        × (W.failures writer.new ≡ W.failures writer.old)) }
+    ensures fault { IfErr result (λ fault. IsFaultOf fault (R.reads reader.old) (R.reads reader.new)
+        (R.failures reader.old) (R.failures reader.new) (W.failures writer.old) (W.failures writer.new)) }
 {
     let mut task = Diff::new(alloc);
     match run_task(alloc, &mut task, reader, writer) {

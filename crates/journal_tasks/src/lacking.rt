@@ -1,5 +1,6 @@
 //! The task that prints the leaves that a response of `_revs_diff` names as missing.
-ghost use Rattle.std.specs.Prelude.{◌≡◌, ◌++◌, [], List, OnErr, OnOk, IfOk, filter, flat_map, is_none, map, option_and_then, option_map, true, false, unwrap_or, ℕ};
+ghost use Rattle.std.specs.Prelude.{◌≡◌, ◌++◌, [], List, OnErr, OnOk, IfErr, IfOk, filter, flat_map, is_none, map, option_and_then, option_map, true, false, unwrap_or, ℕ};
+ghost use Rattle.script_engine.specs.Faults.{IsFaultOf};
 ghost use Rattle.std.specs.List.{list_all};
 ghost use Rattle.std.specs.Io.KnownBytes.{Appends};
 ghost use Rattle.json.specs.Find.{as_object};
@@ -331,6 +332,10 @@ pub fn lacking_leaves<R: ScriptRead, W: ScriptWrite>(
         × Appends (W.held writer.old) (W.held writer.new) text
         × HasPrintedPart IsLacking HasLacked (R.ended reader.new) input text) }
     ensures ended { OnOk result (R.ended reader.new) }
+    ensures counted { OnOk result ((R.failures reader.new ≡ R.failures reader.old)
+        × (W.failures writer.new ≡ W.failures writer.old)) }
+    ensures fault { IfErr result (λ fault. IsFaultOf fault (R.reads reader.old) (R.reads reader.new)
+        (R.failures reader.old) (R.failures reader.new) (W.failures writer.old) (W.failures writer.new)) }
 {
     let mut task = Lacking::new(alloc);
     match run_task(alloc, &mut task, reader, writer) {

@@ -1,5 +1,6 @@
 //! The task that prints a line for each leaf of a list.
-ghost use Rattle.std.specs.Prelude.{◌≡◌, ◌++◌, [], List, OnErr, OnOk, IfOk, map, not, string_bytes, ℕ};
+ghost use Rattle.std.specs.Prelude.{◌≡◌, ◌++◌, [], List, OnErr, OnOk, IfErr, IfOk, map, not, string_bytes, ℕ};
+ghost use Rattle.script_engine.specs.Faults.{IsFaultOf};
 ghost use Rattle.std.specs.Io.KnownBytes.{Appends};
 ghost use Rattle.line_reader.specs.Tasks.{HasPrinted, HasPrintedPart};
 ghost use Rattle.journal_lines.specs.Entries.{entry_view};
@@ -129,6 +130,10 @@ pub fn name_leaves<R: ScriptRead, W: ScriptWrite>(
         × Appends (W.held writer.old) (W.held writer.new) text
         × HasPrintedPart (IsNaming (string_bytes word)) (HasNamed (string_bytes word)) (R.ended reader.new) input text) }
     ensures ended { OnOk result (R.ended reader.new) }
+    ensures counted { OnOk result ((R.failures reader.new ≡ R.failures reader.old)
+        × (W.failures writer.new ≡ W.failures writer.old)) }
+    ensures fault { IfErr result (λ fault. IsFaultOf fault (R.reads reader.old) (R.reads reader.new)
+        (R.failures reader.old) (R.failures reader.new) (W.failures writer.old) (W.failures writer.new)) }
 {
     let mut task = Name::new(alloc, word);
     match run_task(alloc, &mut task, reader, writer) {

@@ -1,5 +1,6 @@
 //! The task that splits a list of documents into parts.
-ghost use Rattle.std.specs.Prelude.{◌≡◌, ◌++◌, ◌∷◌, [], List, OnErr, OnOk, IfOk, length, ℕ, ◌+◌};
+ghost use Rattle.std.specs.Prelude.{◌≡◌, ◌++◌, ◌∷◌, [], List, OnErr, OnOk, IfErr, IfOk, length, ℕ, ◌+◌};
+ghost use Rattle.script_engine.specs.Faults.{IsFaultOf};
 ghost use Rattle.std.specs.Io.KnownBytes.{Appends};
 ghost use Rattle.line_reader.specs.Tasks.{HasPrinted, HasPrintedPart};
 ghost use Rattle.journal_tasks.specs.Arguments.{EndsFor, StepsFor};
@@ -159,6 +160,10 @@ pub fn split_lines<R: ScriptRead, W: ScriptWrite>(
         × HasPrintedPart (IsSplitting (most_bytes, most_lines)) (HasSplit (most_bytes, most_lines)) (R.ended reader.new)
         input text) }
     ensures ended { OnOk result (R.ended reader.new) }
+    ensures counted { OnOk result ((R.failures reader.new ≡ R.failures reader.old)
+        × (W.failures writer.new ≡ W.failures writer.old)) }
+    ensures fault { IfErr result (λ fault. IsFaultOf fault (R.reads reader.old) (R.reads reader.new)
+        (R.failures reader.old) (R.failures reader.new) (W.failures writer.old) (W.failures writer.new)) }
 {
     let mut task = Parts::new(alloc, most_bytes, most_lines);
     match run_task(alloc, &mut task, reader, writer) {

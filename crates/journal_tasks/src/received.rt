@@ -1,5 +1,6 @@
 //! The task that says which leaves of a request were received.
-ghost use Rattle.std.specs.Prelude.{◌≡◌, ◌++◌, ◌&&◌, ℕ, List, OnErr, OnOk, IfOk, Some, bytes_eq, codes, false, flat_map, if◌then◌else◌, is_some, map, not, option_map, string_bytes, true, []};
+ghost use Rattle.std.specs.Prelude.{◌≡◌, ◌++◌, ◌&&◌, ℕ, List, OnErr, OnOk, IfErr, IfOk, Some, bytes_eq, codes, false, flat_map, if◌then◌else◌, is_some, map, not, option_map, string_bytes, true, []};
+ghost use Rattle.script_engine.specs.Faults.{IsFaultOf};
 ghost use Rattle.std.specs.List.{list_any};
 ghost use Rattle.std.specs.Io.KnownBytes.{Appends};
 ghost use Rattle.line_reader.specs.Tasks.{HasPrinted, HasPrintedPart};
@@ -436,6 +437,10 @@ pub fn receive_leaves<R: ScriptRead, W: ScriptWrite>(
         × Appends (W.held writer.old) (W.held writer.new) text
         × HasPrintedPart (IsReceiving only_lacks) (HasReceived only_lacks) (R.ended reader.new) input text) }
     ensures ended { OnOk result (R.ended reader.new) }
+    ensures counted { OnOk result ((R.failures reader.new ≡ R.failures reader.old)
+        × (W.failures writer.new ≡ W.failures writer.old)) }
+    ensures fault { IfErr result (λ fault. IsFaultOf fault (R.reads reader.old) (R.reads reader.new)
+        (R.failures reader.old) (R.failures reader.new) (W.failures writer.old) (W.failures writer.new)) }
 {
     let mut task = Received::new(alloc, only_lacks);
     match run_task(alloc, &mut task, reader, writer) {

@@ -1,5 +1,6 @@
 //! The task that selects the documents that a restore sends.
-ghost use Rattle.std.specs.Prelude.{◌≡◌, ◌++◌, ◌∷◌, ◌&&◌, ◌||◌, ◌⊎◌, [], ℕ, Bool, List, IfOk, OnErr, OnOk, bytes_eq, codes, false, if◌then◌else◌, is_none, length, map, nat_eq, not, option_map, string_bytes, true};
+ghost use Rattle.std.specs.Prelude.{◌≡◌, ◌++◌, ◌∷◌, ◌&&◌, ◌||◌, ◌⊎◌, [], ℕ, Bool, List, IfErr, IfOk, OnErr, OnOk, bytes_eq, codes, false, if◌then◌else◌, is_none, length, map, nat_eq, not, option_map, string_bytes, true};
+ghost use Rattle.script_engine.specs.Faults.{IsFaultOf};
 ghost use Rattle.std.specs.Io.KnownBytes.{Appends};
 ghost use Rattle.sha2.specs.Hashers.{Holds256};
 ghost use Rattle.sha2.specs.Sha256.{sha256};
@@ -390,6 +391,10 @@ pub fn select_lines<R: ScriptRead, W: ScriptWrite>(
         × ((text ≡ []) ⊎ HasPrintedPart (IsSelecting (choice_of size filter)) (HasSelected (choice_of size filter))
         (R.ended reader.new) input text)) }
     ensures ended { OnOk result (R.ended reader.new) }
+    ensures counted { OnOk result ((R.failures reader.new ≡ R.failures reader.old)
+        × (W.failures writer.new ≡ W.failures writer.old)) }
+    ensures fault { IfErr result (λ fault. IsFaultOf fault (R.reads reader.old) (R.reads reader.new)
+        (R.failures reader.old) (R.failures reader.new) (W.failures writer.old) (W.failures writer.new)) }
 {
     let mut task = Select::new(alloc, size, filter)?;
     match run_task(alloc, &mut task, reader, writer) {
