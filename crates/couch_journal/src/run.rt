@@ -1,8 +1,12 @@
 //! Runs the program's tasks over any reader and writer.
-ghost use Rattle.std.specs.Prelude.{◌≡◌, ◌++◌, ℕ, List, IfOk, IfErr, OnErr, OnOk, is_some, map, option_map, string_bytes};
+ghost use Rattle.std.specs.Prelude.{◌≡◌, ◌++◌, ℕ, List, Err, IfOk, IfErr, OnErr, OnOk, is_some, map, option_map, string_bytes};
 ghost use Rattle.std.specs.Io.KnownBytes.{Appends};
 ghost use Rattle.json.specs.Value.{value_view};
 ghost use Rattle.script_engine.specs.Device.{FailsOnce};
+ghost use Rattle.script_engine.specs.Faults.{IsFaultOf};
+ghost use Rattle.script_engine.specs.declared.fault.ScriptFault.{ScriptFault};
+ghost use Rattle.script_engine.specs.declared.fault.ScriptFault.TheVariants.{Memory, Write};
+ghost use Rattle.couch_journal.specs.declared.ended.Ended.TheVariants.{Ran};
 ghost use Rattle.journal_responses.specs.Responses.{IsOther, IsSaid};
 ghost use Rattle.journal_tasks.specs.Selecting.{choice_of};
 ghost use Rattle.couch_journal.specs.Status.{missing_or_done};
@@ -135,6 +139,7 @@ fn write_shown<W: ScriptWrite>(
     ensures err { OnErr result ((front : List ℕ) × (back : List ℕ) × (text.now ≡ front ++ back)
         × Appends (W.held writer.old) (W.held writer.new) front
         × FailsOnce (W.failures writer.old) (W.failures writer.new)) }
+    ensures fault { IfErr result (λ fault. fault ≡ Write) }
 {
     match write_all(writer, text) {
         Ok(()) => Ok(missing_or_done(refused)),
@@ -149,9 +154,11 @@ fn run_response<R: ScriptRead, W: ScriptWrite>(
     reader: &mut R,
     writer: &mut W,
 ) -> Result<Outcome, ScriptFault>
-    ensures { (input text : List ℕ) × Appends (R.taken reader.old) (R.taken reader.new) input
+    ensures ran { (input text : List ℕ) × Appends (R.taken reader.old) (R.taken reader.new) input
         × Appends (W.held writer.old) (W.held writer.new) text
         × RunsResponse response (R.ended reader.new) input text result }
+    ensures fault { IfErr result (λ fault. IsFaultOf fault (R.reads reader.old) (R.reads reader.new)
+        (R.failures reader.old) (R.failures reader.new) (W.failures writer.old) (W.failures writer.new)) }
 {
     let body = match read_all(alloc, reader) {
         Ok(body) => body,
@@ -172,9 +179,11 @@ fn run_seal<R: ScriptRead, W: ScriptWrite>(
     reader: &mut R,
     writer: &mut W,
 ) -> Result<Outcome, ScriptFault>
-    ensures { (input text : List ℕ) × Appends (R.taken reader.old) (R.taken reader.new) input
+    ensures ran { (input text : List ℕ) × Appends (R.taken reader.old) (R.taken reader.new) input
         × Appends (W.held writer.old) (W.held writer.new) text
         × RunsSeal chain.now seq.now (R.ended reader.new) input text result }
+    ensures fault { IfErr result (λ fault. IsFaultOf fault (R.reads reader.old) (R.reads reader.new)
+        (R.failures reader.old) (R.failures reader.new) (W.failures writer.old) (W.failures writer.new)) }
 {
     let wrong = match seal_block(alloc, chain.as_bytes(), seq.as_bytes(), reader, writer) {
         Ok(wrong) => wrong,
@@ -217,9 +226,11 @@ fn run_confirmed<R: ScriptRead, W: ScriptWrite>(
     reader: &mut R,
     writer: &mut W,
 ) -> Result<Outcome, ScriptFault>
-    ensures { (input text : List ℕ) × Appends (R.taken reader.old) (R.taken reader.new) input
+    ensures ran { (input text : List ℕ) × Appends (R.taken reader.old) (R.taken reader.new) input
         × Appends (W.held writer.old) (W.held writer.new) text
         × RunsConfirm (option_map (λ at. at.now) at.entry) (R.ended reader.new) input text result }
+    ensures fault { IfErr result (λ fault. IsFaultOf fault (R.reads reader.old) (R.reads reader.new)
+        (R.failures reader.old) (R.failures reader.new) (W.failures writer.old) (W.failures writer.new)) }
 {
     let given = has_seq(at);
     match confirm_journal(alloc, at, reader, writer) {
@@ -243,9 +254,11 @@ fn run_confirm<R: ScriptRead, W: ScriptWrite>(
     reader: &mut R,
     writer: &mut W,
 ) -> Result<Outcome, ScriptFault>
-    ensures { (input text : List ℕ) × Appends (R.taken reader.old) (R.taken reader.new) input
+    ensures ran { (input text : List ℕ) × Appends (R.taken reader.old) (R.taken reader.new) input
         × Appends (W.held writer.old) (W.held writer.new) text
         × RunsConfirm (option_map (λ at. at.now) at.entry) (R.ended reader.new) input text result }
+    ensures fault { IfErr result (λ fault. IsFaultOf fault (R.reads reader.old) (R.reads reader.new)
+        (R.failures reader.old) (R.failures reader.new) (W.failures writer.old) (W.failures writer.new)) }
 {
     run_confirmed(alloc, bytes_of(at), reader, writer)
 }
@@ -258,9 +271,11 @@ fn run_states<R: ScriptRead, W: ScriptWrite>(
     reader: &mut R,
     writer: &mut W,
 ) -> Result<Outcome, ScriptFault>
-    ensures { (input text : List ℕ) × Appends (R.taken reader.old) (R.taken reader.new) input
+    ensures ran { (input text : List ℕ) × Appends (R.taken reader.old) (R.taken reader.new) input
         × Appends (W.held writer.old) (W.held writer.new) text
         × RunsStates unverified (R.ended reader.new) input text result }
+    ensures fault { IfErr result (λ fault. IsFaultOf fault (R.reads reader.old) (R.reads reader.new)
+        (R.failures reader.old) (R.failures reader.new) (W.failures writer.old) (W.failures writer.new)) }
 {
     match last_states(alloc, unverified, reader, writer) {
         Ok(task) => {
@@ -273,7 +288,8 @@ fn run_states<R: ScriptRead, W: ScriptWrite>(
 
 /// Returns the filter that the options of the task `select` describe.
 fn filter_of(alloc: Global, options: &Options<'_>) -> Result<Filter, ScriptFault>
-    ensures { IfOk result (λ filter. (size : ℕ) → choice_of size filter ≡ choice_in size options.now) }
+    ensures filter { IfOk result (λ filter. (size : ℕ) → choice_of size filter ≡ choice_in size options.now) }
+    ensures fault { IfErr result (λ fault. fault ≡ Memory) }
 {
     let id = match options.doc {
         Some(id) => Some(String::from_str(alloc, id)?),
@@ -295,9 +311,11 @@ fn run_filtered<R: ScriptRead, W: ScriptWrite>(
     reader: &mut R,
     writer: &mut W,
 ) -> Result<Outcome, ScriptFault>
-    ensures { (input text : List ℕ) × Appends (R.taken reader.old) (R.taken reader.new) input
+    ensures ran { (input text : List ℕ) × Appends (R.taken reader.old) (R.taken reader.new) input
         × Appends (W.held writer.old) (W.held writer.new) text
         × RunsSelect (choice_of size filter) (R.ended reader.new) input text result }
+    ensures fault { IfErr result (λ fault. IsFaultOf fault (R.reads reader.old) (R.reads reader.new)
+        (R.failures reader.old) (R.failures reader.new) (W.failures writer.old) (W.failures writer.new)) }
 {
     match select_lines(alloc, size, filter, reader, writer) {
         Ok(task) => {
@@ -318,9 +336,11 @@ fn run_select<R: ScriptRead, W: ScriptWrite>(
     reader: &mut R,
     writer: &mut W,
 ) -> Result<Outcome, ScriptFault>
-    ensures { (input text : List ℕ) × Appends (R.taken reader.old) (R.taken reader.new) input
+    ensures ran { (input text : List ℕ) × Appends (R.taken reader.old) (R.taken reader.new) input
         × Appends (W.held writer.old) (W.held writer.new) text
         × RunsSelect (choice_in size options.now) (R.ended reader.new) input text result }
+    ensures fault { IfErr result (λ fault. IsFaultOf fault (R.reads reader.old) (R.reads reader.new)
+        (R.failures reader.old) (R.failures reader.new) (W.failures writer.old) (W.failures writer.new)) }
 {
     match filter_of(alloc, options) {
         Ok(filter) => run_filtered(alloc, size, filter, reader, writer),
@@ -336,9 +356,11 @@ fn run_received<R: ScriptRead, W: ScriptWrite>(
     reader: &mut R,
     writer: &mut W,
 ) -> Result<Outcome, ScriptFault>
-    ensures { (input text : List ℕ) × Appends (R.taken reader.old) (R.taken reader.new) input
+    ensures ran { (input text : List ℕ) × Appends (R.taken reader.old) (R.taken reader.new) input
         × Appends (W.held writer.old) (W.held writer.new) text
         × RunsReceived only_lacks (R.ended reader.new) input text result }
+    ensures fault { IfErr result (λ fault. IsFaultOf fault (R.reads reader.old) (R.reads reader.new)
+        (R.failures reader.old) (R.failures reader.new) (W.failures writer.old) (W.failures writer.new)) }
 {
     match receive_leaves(alloc, only_lacks, reader, writer) {
         Ok(task) => Ok(wrong_or(task.wrong(), missing_or_done(task.lacks()))),
@@ -352,9 +374,11 @@ fn run_ask<R: ScriptRead, W: ScriptWrite>(
     reader: &mut R,
     writer: &mut W,
 ) -> Result<Outcome, ScriptFault>
-    ensures { (input text : List ℕ) × Appends (R.taken reader.old) (R.taken reader.new) input
+    ensures ran { (input text : List ℕ) × Appends (R.taken reader.old) (R.taken reader.new) input
         × Appends (W.held writer.old) (W.held writer.new) text
         × RunsAsk (R.ended reader.new) input text result }
+    ensures fault { IfErr result (λ fault. IsFaultOf fault (R.reads reader.old) (R.reads reader.new)
+        (R.failures reader.old) (R.failures reader.new) (W.failures writer.old) (W.failures writer.new)) }
 {
     match ask_leaves(alloc, reader, writer) {
         Ok(task) => Ok(wrong_or(task.wrong(), Outcome::Done)),
@@ -368,9 +392,11 @@ fn run_lacking<R: ScriptRead, W: ScriptWrite>(
     reader: &mut R,
     writer: &mut W,
 ) -> Result<Outcome, ScriptFault>
-    ensures { (input text : List ℕ) × Appends (R.taken reader.old) (R.taken reader.new) input
+    ensures ran { (input text : List ℕ) × Appends (R.taken reader.old) (R.taken reader.new) input
         × Appends (W.held writer.old) (W.held writer.new) text
         × RunsLacking (R.ended reader.new) input text result }
+    ensures fault { IfErr result (λ fault. IsFaultOf fault (R.reads reader.old) (R.reads reader.new)
+        (R.failures reader.old) (R.failures reader.new) (W.failures writer.old) (W.failures writer.new)) }
 {
     match lacking_leaves(alloc, reader, writer) {
         Ok(task) => Ok(wrong_or(task.wrong(), other_or_done(task.is_refused()))),
@@ -384,9 +410,11 @@ fn run_diff<R: ScriptRead, W: ScriptWrite>(
     reader: &mut R,
     writer: &mut W,
 ) -> Result<Outcome, ScriptFault>
-    ensures { (input text : List ℕ) × Appends (R.taken reader.old) (R.taken reader.new) input
+    ensures ran { (input text : List ℕ) × Appends (R.taken reader.old) (R.taken reader.new) input
         × Appends (W.held writer.old) (W.held writer.new) text
         × RunsDiff (R.ended reader.new) input text result }
+    ensures fault { IfErr result (λ fault. IsFaultOf fault (R.reads reader.old) (R.reads reader.new)
+        (R.failures reader.old) (R.failures reader.new) (W.failures writer.old) (W.failures writer.new)) }
 {
     match diff_leaves(alloc, reader, writer) {
         Ok(task) => Ok(wrong_or(task.wrong(), Outcome::Done)),
@@ -403,9 +431,11 @@ fn run_parts<R: ScriptRead, W: ScriptWrite>(
     reader: &mut R,
     writer: &mut W,
 ) -> Result<Outcome, ScriptFault>
-    ensures { (input text : List ℕ) × Appends (R.taken reader.old) (R.taken reader.new) input
+    ensures ran { (input text : List ℕ) × Appends (R.taken reader.old) (R.taken reader.new) input
         × Appends (W.held writer.old) (W.held writer.new) text
         × RunsParts (bytes, lines) (R.ended reader.new) input text result }
+    ensures fault { IfErr result (λ fault. IsFaultOf fault (R.reads reader.old) (R.reads reader.new)
+        (R.failures reader.old) (R.failures reader.new) (W.failures writer.old) (W.failures writer.new)) }
 {
     match split_lines(alloc, bytes, lines, reader, writer) {
         Ok(task) => Ok(wrong_or(task.wrong(), Outcome::Done)),
@@ -420,9 +450,11 @@ fn run_named<R: ScriptRead, W: ScriptWrite>(
     reader: &mut R,
     writer: &mut W,
 ) -> Result<Outcome, ScriptFault>
-    ensures { (input text : List ℕ) × Appends (R.taken reader.old) (R.taken reader.new) input
+    ensures ran { (input text : List ℕ) × Appends (R.taken reader.old) (R.taken reader.new) input
         × Appends (W.held writer.old) (W.held writer.new) text
         × RunsName (string_bytes word) (R.ended reader.new) input text result }
+    ensures fault { IfErr result (λ fault. IsFaultOf fault (R.reads reader.old) (R.reads reader.new)
+        (R.failures reader.old) (R.failures reader.new) (W.failures writer.old) (W.failures writer.new)) }
 {
     match name_leaves(alloc, word, reader, writer) {
         Ok(task) => Ok(wrong_or(task.wrong(), Outcome::Done)),
@@ -437,9 +469,11 @@ fn run_name<R: ScriptRead, W: ScriptWrite>(
     reader: &mut R,
     writer: &mut W,
 ) -> Result<Outcome, ScriptFault>
-    ensures { (input text : List ℕ) × Appends (R.taken reader.old) (R.taken reader.new) input
+    ensures ran { (input text : List ℕ) × Appends (R.taken reader.old) (R.taken reader.new) input
         × Appends (W.held writer.old) (W.held writer.new) text
         × RunsName word.now (R.ended reader.new) input text result }
+    ensures fault { IfErr result (λ fault. IsFaultOf fault (R.reads reader.old) (R.reads reader.new)
+        (R.failures reader.old) (R.failures reader.new) (W.failures writer.old) (W.failures writer.new)) }
 {
     match String::from_str(alloc, word) {
         Ok(word) => run_named(alloc, word, reader, writer),
@@ -454,9 +488,11 @@ fn run_compare<R: ScriptRead, W: ScriptWrite>(
     reader: &mut R,
     writer: &mut W,
 ) -> Result<Outcome, ScriptFault>
-    ensures { (input text : List ℕ) × Appends (R.taken reader.old) (R.taken reader.new) input
+    ensures ran { (input text : List ℕ) × Appends (R.taken reader.old) (R.taken reader.new) input
         × Appends (W.held writer.old) (W.held writer.new) text
         × RunsCompare documents (R.ended reader.new) input text result }
+    ensures fault { IfErr result (λ fault. IsFaultOf fault (R.reads reader.old) (R.reads reader.new)
+        (R.failures reader.old) (R.failures reader.new) (W.failures writer.old) (W.failures writer.new)) }
 {
     match compare_lists(alloc, documents, reader, writer) {
         Ok(task) => Ok(wrong_or(task.wrong(), Outcome::Done)),
@@ -470,9 +506,11 @@ fn run_conflicts<R: ScriptRead, W: ScriptWrite>(
     reader: &mut R,
     writer: &mut W,
 ) -> Result<Outcome, ScriptFault>
-    ensures { (input text : List ℕ) × Appends (R.taken reader.old) (R.taken reader.new) input
+    ensures ran { (input text : List ℕ) × Appends (R.taken reader.old) (R.taken reader.new) input
         × Appends (W.held writer.old) (W.held writer.new) text
         × RunsConflicts (R.ended reader.new) input text result }
+    ensures fault { IfErr result (λ fault. IsFaultOf fault (R.reads reader.old) (R.reads reader.new)
+        (R.failures reader.old) (R.failures reader.new) (W.failures writer.old) (W.failures writer.new)) }
 {
     match list_conflicts(alloc, reader, writer) {
         Ok(task) => Ok(wrong_or(task.wrong(), Outcome::Done)),
@@ -493,9 +531,11 @@ fn run<R: ScriptRead, W: ScriptWrite>(
     reader: &mut R,
     writer: &mut W,
 ) -> Result<Outcome, ScriptFault>
-    ensures { (input text : List ℕ) × Appends (R.taken reader.old) (R.taken reader.new) input
+    ensures ran { (input text : List ℕ) × Appends (R.taken reader.old) (R.taken reader.new) input
         × Appends (W.held writer.old) (W.held writer.new) text
         × RunsTask task.now options.now (R.ended reader.new) input text result }
+    ensures fault { IfErr result (λ fault. IsFaultOf fault (R.reads reader.old) (R.reads reader.new)
+        (R.failures reader.old) (R.failures reader.new) (W.failures writer.old) (W.failures writer.new)) }
 {
     match task {
         Task::Page(several) => run_response(alloc, Response::Page(*several), reader, writer),
@@ -523,9 +563,12 @@ pub(crate) fn run_words<R: ScriptRead, W: ScriptWrite>(
     reader: &mut R,
     writer: &mut W,
 ) -> Ended
-    ensures { (input text : List ℕ) × Appends (R.taken reader.old) (R.taken reader.new) input
+    ensures ran { (input text : List ℕ) × Appends (R.taken reader.old) (R.taken reader.new) input
         × Appends (W.held writer.old) (W.held writer.new) text
         × RunsWords (map string_bytes words.now) (R.ended reader.new) input text result }
+    ensures fault { (fault : ScriptFault) → result ≡ Ran (Err fault) → IsFaultOf fault (R.reads reader.old)
+        (R.reads reader.new) (R.failures reader.old) (R.failures reader.new) (W.failures writer.old)
+        (W.failures writer.new) }
 {
     let matches = match matches_of(alloc, words) {
         Ok(matches) => matches,

@@ -7,8 +7,8 @@ use Rattle.couch_journal.specs.declared.ended.Outcome.TheVariants as outcomes
 use Rattle.couch_journal.proofs.{lines_done, lines_part}
 use Rattle.couch_journal.proofs.run.run_ask.Goals as goal
 
-pub returns-in-Ok : goal.returns-in-Ok
-returns-in-Ok g c =
+pub returns-in-Ok-clause-ran : goal.returns-in-Ok-clause-ran
+returns-in-Ok-clause-ran g c =
     let t = c.in-Ok.ensures.took in (
       t.0,
       t.1,
@@ -18,8 +18,8 @@ returns-in-Ok g c =
           (λ lines rest h. (h.text_is, c.wrong_or.ensures ∙ ap (λ o. wrong_or o outcomes.Done) (c.wrong.ensures ∙ h.wrong))) c.in-Ok.ensures.ended t.4,
     )
 
-pub returns-in-Err : goal.returns-in-Err
-returns-in-Err g c =
+pub returns-in-Err-clause-ran : goal.returns-in-Err-clause-ran
+returns-in-Err-clause-ran g c =
     let t = c.in-Err.ensures.stopped in (
       t.0,
       t.1,

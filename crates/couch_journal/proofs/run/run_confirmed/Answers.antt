@@ -5,8 +5,8 @@ use Rattle.couch_journal.specs.Status.{confirm_outcome}
 use Rattle.couch_journal.proofs.{confirmed_outcome, lines_done, nothing_printed}
 use Rattle.couch_journal.proofs.run.run_confirmed.Goals as goal
 
-pub returns-in-Ok : goal.returns-in-Ok
-returns-in-Ok g c =
+pub returns-in-Ok-clause-ran : goal.returns-in-Ok-clause-ran
+returns-in-Ok-clause-ran g c =
     let t = c.in-Ok.ensures.took in
     let at = option_map (λ at. at.now) c.args.at in (
       t.0,
@@ -17,8 +17,8 @@ returns-in-Ok g c =
           (λ lines rest h. (h.text_is, confirmed_outcome at lines rest t.1 c.in-Ok.task c.is_not_found.result c.has_seq-given.result c.is_confirmed-sure.result (c.has_seq-given.result || c.is_confirmed-sure.result) c.is_without_sums.result c.confirmed_lines.result c.confirm_outcome.result h c.is_not_found.ensures c.has_seq-given.ensures c.is_confirmed-sure.ensures refl c.is_without_sums.ensures c.confirmed_lines.ensures c.confirm_outcome.ensures)) c.in-Ok.ensures.ended t.4,
     )
 
-pub returns-in-Err : goal.returns-in-Err
-returns-in-Err g c =
+pub returns-in-Err-clause-ran : goal.returns-in-Err-clause-ran
+returns-in-Err-clause-ran g c =
     let t = c.in-Err.ensures.stopped in
     let at = option_map (λ at. at.now) c.args.at in (
       t.0,

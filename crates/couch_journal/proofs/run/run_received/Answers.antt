@@ -3,8 +3,8 @@ use Rattle.couch_journal.specs.Status.{missing_or_done, wrong_or}
 use Rattle.couch_journal.proofs.{lines_done, lines_part, received_outcome}
 use Rattle.couch_journal.proofs.run.run_received.Goals as goal
 
-pub returns-in-Ok : goal.returns-in-Ok
-returns-in-Ok g c =
+pub returns-in-Ok-clause-ran : goal.returns-in-Ok-clause-ran
+returns-in-Ok-clause-ran g c =
     let t = c.in-Ok.ensures.took in
     let only = c.args.only_lacks in (
       t.0,
@@ -15,8 +15,8 @@ returns-in-Ok g c =
           (λ lines rest h. (h.text_is, received_outcome only lines rest t.1 c.in-Ok.task _ _ _ _ h c.wrong.ensures c.lacks.ensures c.missing_or_done.ensures c.wrong_or.ensures)) c.in-Ok.ensures.ended t.4,
     )
 
-pub returns-in-Err : goal.returns-in-Err
-returns-in-Err g c =
+pub returns-in-Err-clause-ran : goal.returns-in-Err-clause-ran
+returns-in-Err-clause-ran g c =
     let t = c.in-Err.ensures.stopped in
     let only = c.args.only_lacks in (
       t.0,
