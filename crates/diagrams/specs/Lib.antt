@@ -5,6 +5,8 @@ pub mod Shapes
 pub mod Ink
 pub mod Tallies
 pub mod Drawing
+pub mod Columns
+pub mod Rows
 pub use Shown.{IsEscaped, IsSafe, done, entity_of, is_markup, named, plain, shown, shown_char}
 pub use Tallies.{none_counted, with_line, with_told, with_unknown}
 pub use Ink.{Draws, Piece, Sign, bar, bars_of, caption, chart, count, counts_of, edit, edit_of, edits_of, filled, found, heading, ink_of, label_text}

@@ -1,8 +1,11 @@
-//! Computes the columns of a diagram of a revision tree. Each leaf of the revision tree has a row in the diagram. Each
-//! generation at which a leaf's row begins, ends or forks has its own column in the diagram. Consecutive generations at
-//! which no row begins, ends or forks share one column.
+//! Computes the columns of a diagram of a revision tree. Each leaf of the revision tree has a row in the diagram. A
+//! generation is *marked* if a leaf's row begins or ends at this generation, or branches off from it. Each marked
+//! generation has its own column in the diagram. All generations between two successive marked generations share one
+//! column.
 
-ghost use Rattle.std.specs.Prelude.{◌≡◌, ◌==◌, ◌||◌, ◌+◌, ◌-◌, ◌^◌, decimal, if◌then◌else◌, length};
+ghost use Rattle.std.specs.Prelude.{◌≡◌, ◌+◌, ◌++◌, ◌-◌, ℕ, List, IfOk, OnOk, decimal, length, map};
+ghost use Rattle.diagrams.specs.Ancestries.{ancestry_of};
+ghost use Rattle.diagrams.specs.Columns.{AreMarked, between, column_of, marks, marks_of, spans, start_of, width_in, width_of};
 
 use crate::ancestries::Ancestries;
 use crate::document::Leaf;
@@ -25,34 +28,50 @@ pub fn axis_of(
     ancestries: &Ancestries,
     leaves: &[Leaf],
     rows: &[Row],
-) -> Result<Vec<Cell>, AllocError> {
-    let kept = kept_of(alloc, leaves, rows)?;
-    let mut cells = cells_of(alloc, kept.as_slice())?;
-    for cell in cells.as_mut_slice() {
-        cell.width = width_of(ancestries, leaves, cell.low, cell.high);
-    }
-    Ok(cells)
+) -> Result<Vec<Cell>, AllocError>
+    ensures { IfOk result (λ cells. (marked : List ℕ) × AreMarked leaves.now rows.now marked
+        × (cells.items ≡ map (column_of ancestries.now leaves.now) (spans marked))) }
+{
+    let marked = marked_of(alloc, leaves, rows)?;
+    cells_of(alloc, ancestries, leaves, marked.as_slice())
 }
 
-/// Returns, in rising order, the generations at which a leaf's row of the diagram begins, ends or forks. Each returned
-/// generation gets a separate column.
-fn kept_of(alloc: Global, leaves: &[Leaf], rows: &[Row]) -> Result<Vec<u32>, AllocError> {
-    let mut kept = Vec::new(alloc);
-    for (leaf, row) in leaves.iter().zip(rows) {
-        kept.push(leaf.generation())?;
-        kept.push(start_of(leaf, row))?;
-        if row.hang > 0 {
-            kept.push(row.hang)?;
-        }
+/// Returns the marked generations, each once and in rising order.
+fn marked_of(alloc: Global, leaves: &[Leaf], rows: &[Row]) -> Result<Vec<u32>, AllocError>
+    ensures { IfOk result (λ marked. AreMarked leaves.now rows.now marked.items) }
+{
+    let mut marked = marks(alloc, leaves, rows)?;
+    marked.sort()?;
+    marked.dedup();
+    Ok(marked)
+}
+
+/// Returns the generations that are marked because of each row, row by row.
+fn marks(alloc: Global, leaves: &[Leaf], rows: &[Row]) -> Result<Vec<u32>, AllocError>
+    ensures { IfOk result (λ all. all.items ≡ marks leaves.now rows.now) }
+{
+    let mut all = Vec::new(alloc);
+    for i in 0..leaves.len().min(rows.len()) {
+        push_marks(&mut all, &leaves[i], &rows[i])?;
     }
-    kept.sort()?;
-    kept.dedup();
-    Ok(kept)
+    Ok(all)
+}
+
+/// Appends the generations at which a leaf's row ends, begins and branches off.
+fn push_marks(all: &mut Vec<u32>, leaf: &Leaf, row: &Row) -> Result<(), AllocError>
+    ensures { OnOk result (all.new.items ≡ all.old.items ++ marks_of (leaf.now, row.now)) }
+{
+    all.push(leaf.generation())?;
+    all.push(start_of(leaf, row))?;
+    if row.hang > 0 {
+        all.push(row.hang)?;
+    }
+    Ok(())
 }
 
 /// Returns the generation of the oldest revision in a leaf's row of the diagram.
 pub fn start_of(leaf: &Leaf, row: &Row) -> u32
-    ensures { result ≡ (if row.now.hang == 0 || row.now.hang == 2 ^ 32 - 1 then leaf.now.oldest else row.now.hang + 1) }
+    ensures { result ≡ start_of leaf.now row.now }
 {
     if row.hang == 0 || row.hang == u32::MAX {
         return leaf.oldest;
@@ -60,42 +79,78 @@ pub fn start_of(leaf: &Leaf, row: &Row) -> u32
     row.hang + 1
 }
 
-/// Builds one column for each generation in the list `kept`, and one column for each gap between neighbours in the
-/// list.
-fn cells_of(alloc: Global, kept: &[u32]) -> Result<Vec<Cell>, AllocError> {
+/// Builds one column for each marked generation, and one column for each gap between successive marked generations.
+fn cells_of(
+    alloc: Global,
+    ancestries: &Ancestries,
+    leaves: &[Leaf],
+    marked: &[u32],
+) -> Result<Vec<Cell>, AllocError>
+    ensures { IfOk result (λ cells. cells.items ≡ map (column_of ancestries.now leaves.now) (spans marked.now)) }
+{
     let mut cells = Vec::new(alloc);
-    let mut next = kept.first().copied().unwrap_or(0);
-    for generation in kept {
-        if *generation > next {
-            cells.push(Cell {
-                low: next,
-                high: *generation - 1,
-                width: 0,
-            })?;
+    for i in 0..marked.len() {
+        if i > 0 {
+            push_gap(&mut cells, ancestries, leaves, marked[i - 1], marked[i])?;
         }
-        cells.push(Cell {
-            low: *generation,
-            high: *generation,
-            width: 0,
-        })?;
-        next = generation.saturating_add(1);
+        cells.push(cell_of(ancestries, leaves, marked[i], marked[i]))?;
     }
     Ok(cells)
 }
 
+/// Appends the column for the generations between two marked generations, if there are any.
+fn push_gap(
+    cells: &mut Vec<Cell>,
+    ancestries: &Ancestries,
+    leaves: &[Leaf],
+    last: u32,
+    next: u32,
+) -> Result<(), AllocError>
+    ensures { OnOk result
+        (cells.new.items ≡ cells.old.items ++ map (column_of ancestries.now leaves.now) (between last next)) }
+{
+    if next.saturating_sub(last) > 1 {
+        cells.push(cell_of(ancestries, leaves, last + 1, next - 1))?;
+    }
+    Ok(())
+}
+
+/// Builds the column for the generations from `low` to `high`.
+fn cell_of(ancestries: &Ancestries, leaves: &[Leaf], low: u32, high: u32) -> Cell
+    ensures { result ≡ column_of ancestries.now leaves.now (low, high) }
+{
+    Cell {
+        low,
+        high,
+        width: width_of(ancestries, leaves, low, high),
+    }
+}
+
 /// Returns the number of characters of the widest text in a column.
-fn width_of(ancestries: &Ancestries, leaves: &[Leaf], low: u32, high: u32) -> usize {
+fn width_of(ancestries: &Ancestries, leaves: &[Leaf], low: u32, high: u32) -> usize
+    ensures { result ≡ width_of ancestries.now leaves.now low high }
+{
     let mut width = 0;
-    for leaf in leaves {
-        if low == high {
-            if let Some(rev) = ancestries.ancestor(leaf.parent, low) {
-                width = width.max(short_len(rev));
-            }
-        } else if ancestries.ancestor(leaf.parent, high).is_some() {
-            width = width.max(folded_len(folded(low, high)));
-        }
+    for i in 0..leaves.len() {
+        width = width.max(width_in(ancestries, &leaves[i], low, high));
     }
     width
+}
+
+/// Returns the number of characters that a column shows of a leaf's ancestry.
+fn width_in(ancestries: &Ancestries, leaf: &Leaf, low: u32, high: u32) -> usize
+    ensures { result ≡ width_in low high (ancestry_of ancestries.now leaf.now.parent) }
+{
+    if low == high {
+        return match ancestries.ancestor(leaf.parent, low) {
+            Some(rev) => short_len(rev),
+            None => 0,
+        };
+    }
+    match ancestries.ancestor(leaf.parent, high) {
+        Some(_) => folded_len(folded(low, high)),
+        None => 0,
+    }
 }
 
 /// Returns the number of generations from `low` to `high`, which share one column of a diagram.

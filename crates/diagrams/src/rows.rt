@@ -1,8 +1,9 @@
 //! Computes the rows of a document's drawing. Each leaf of the document has one row, which shows the leaf's ancestry.
 //! In a drawing, each row except the first may branch off an earlier row.
 
-ghost use Rattle.std.specs.Prelude.{◌≡◌, ◌==◌, IfOk, length, vec_len};
+ghost use Rattle.std.specs.Prelude.{◌≡◌, ◌==◌, ◌<◌, IfOk, OnOk, get_or, length, map, vec_len};
 ghost use Rattle.std.specs.List.{list_any};
+ghost use Rattle.diagrams.specs.Rows.{AreRows, Closes, edges_above, edges_by_row, hangs_of};
 
 use crate::ancestries::Ancestries;
 use crate::document::Leaf;
@@ -24,7 +25,7 @@ pub struct Row {
 
 /// A row from which a later row may branch off.
 #[derive(Drop)]
-struct Branch {
+struct OpenRow {
     /// The generation at which the row branches off an earlier row, or 0 if the row does not branch off.
     hang: u32,
     /// The index of the row in the drawing.
@@ -46,18 +47,15 @@ pub fn rows_of(
     ancestries: &Ancestries,
     leaves: &[Leaf],
 ) -> Result<Vec<Row>, AllocError>
-    ensures { IfOk result (λ rows. vec_len rows ≡ length leaves.now) }
+    ensures count { IfOk result (λ rows. vec_len rows ≡ length leaves.now) }
+    ensures rows { IfOk result (λ rows. AreRows ancestries.now leaves.now rows.items) }
 {
     let mut rows = Vec::new(alloc);
-    let mut branches = Vec::new(alloc);
+    let mut open = Vec::new(alloc);
     for i in 0..leaves.len() {
-        let hang = if i == 0 {
-            0
-        } else {
-            ancestries.last_shared(leaves[i - 1].parent, leaves[i].parent)
-        };
-        let parent = parent_of(&mut branches, hang);
-        branches.push(Branch { hang, row: i })?;
+        let hang = hang_of(ancestries, leaves, i);
+        let parent = parent_of(&mut open, hang);
+        open.push(OpenRow { hang, row: i })?;
         rows.push(Row {
             hang,
             parent,
@@ -65,40 +63,65 @@ pub fn rows_of(
             below: Vec::new(alloc),
         })?;
     }
-    open_below(alloc, rows.as_mut_slice())?;
+    set_edges(alloc, &mut rows)?;
     Ok(rows)
 }
 
-/// Returns the index of the last row that shows a revision of generation `hang`. Returns 0 if `hang` is 0. The call
-/// removes the rows after the returned row from `branches`, because no later row branches off a removed row.
-fn parent_of(branches: &mut Vec<Branch>, hang: u32) -> usize {
-    for _ in 0..branches.len() {
-        match branches.last() {
-            Some(branch) if branch.hang < hang => return branch.row,
-            _ => {}
-        }
-        branches.pop();
+/// Returns the generation at which a leaf's row branches off an earlier row, or 0 if the row does not branch off.
+fn hang_of(ancestries: &Ancestries, leaves: &[Leaf], i: usize) -> u32
+    requires { i < length leaves.now }
+    ensures { result ≡ get_or (hangs_of ancestries.now leaves.now) i 0 }
+{
+    if i == 0 {
+        return 0;
     }
-    0
+    ancestries.last_shared(leaves[i - 1].parent, leaves[i].parent)
+}
+
+/// Returns the index of the last row that shows a revision of generation `hang`. Returns 0 if `hang` is 0. The call
+/// removes the rows after the returned row from `open`, because no later row branches off a removed row.
+fn parent_of(open: &mut Vec<OpenRow>, hang: u32) -> usize
+    ensures { Closes hang open.old.items open.new.items result }
+{
+    let mut count = open.len();
+    while count > 0 && open[count - 1].hang >= hang {
+        count -= 1;
+    }
+    open.truncate(count);
+    match open.last() {
+        Some(row) => row.row,
+        None => 0,
+    }
 }
 
 /// Computes the field `below` of each row, which has the generations of the vertical edges from the row to the next
 /// row.
-fn open_below(alloc: Global, rows: &mut [Row]) -> Result<(), AllocError> {
-    let mut open: Vec<u32> = Vec::new(alloc);
-    for i in (0..rows.len()).rev() {
-        rows[i].below = open.clone()?;
-        close(&mut open, rows[i].hang)?;
+fn set_edges(alloc: Global, rows: &mut Vec<Row>) -> Result<(), AllocError>
+    ensures hangs { map (λ r. r.hang) rows.new.items ≡ map (λ r. r.hang) rows.old.items }
+    ensures parents { map (λ r. r.parent) rows.new.items ≡ map (λ r. r.parent) rows.old.items }
+    ensures firsts { map (λ r. r.first) rows.new.items ≡ map (λ r. r.first) rows.old.items }
+    ensures below { OnOk result
+        (map (λ r. r.below.items) rows.new.items ≡ edges_by_row (map (λ r. r.hang) rows.old.items)) }
+{
+    let mut edges: Vec<u32> = Vec::new(alloc);
+    let mut i = rows.len();
+    while i > 0 {
+        i -= 1;
+        let hang = rows[i].hang;
+        rows[i].below = Vec::from_slice(alloc, edges.as_slice())?;
+        move_up(&mut edges, hang)?;
     }
     Ok(())
 }
 
-/// Updates the list `open` for the preceding row. The list has the value of `Row::below` for row i, and gets the value
+/// Updates the list `edges` for the preceding row. The list has the value of `Row::below` for row i, and gets the value
 /// for row i - 1. The argument `hang` is the value of `Row::hang` for row i.
-fn close(open: &mut Vec<u32>, hang: u32) -> Result<(), AllocError> {
-    open.retain(|generation| *generation < hang);
+fn move_up(edges: &mut Vec<u32>, hang: u32) -> Result<(), AllocError>
+    ensures { OnOk result (edges.new.items ≡ edges_above edges.old.items hang) }
+{
+    edges.retain(|generation| *generation < hang);
     if hang > 0 {
-        open.push(hang)?;
+        edges.push(hang)?;
     }
     Ok(())
 }
