@@ -1,7 +1,8 @@
 //! Reads the arguments of a program. If the program runs nothing because of its arguments, determines the exit status.
-ghost use Rattle.std.specs.Prelude.{◌≡◌, ◌≤◌};
+ghost use Rattle.std.specs.Prelude.{◌≡◌};
+ghost use Rattle.std.specs.IoError.{error_kind};
 ghost use Rattle.clap.specs.Words.{kind_of};
-ghost use Rattle.cli_common.specs.Status.{kind_status};
+ghost use Rattle.cli_common.specs.Status.{argument_status, kind_status};
 
 use clap::Error;
 use clap::error::ErrorKind;
@@ -24,9 +25,9 @@ pub fn words_of<H: AllocGlobal + Env>(rt: &H) -> io::Result<Vec<String>> {
     Ok(words)
 }
 
-/// Reports why the arguments cannot be read, and returns the exit status.
+/// Reports why the arguments cannot be read, and returns the exit status: 3 if an allocation failed, otherwise 2.
 pub fn report_bad_arguments(rt: &impl Eprint, error: &io::Error) -> u8
-    ensures { result ≤ 3 }
+    ensures { result ≡ argument_status (error_kind error.now) }
 {
     match error.kind() {
         io::ErrorKind::OutOfMemory => report_out_of_memory(rt),
