@@ -318,9 +318,20 @@ def counted(words, lines, name, folder):
     return int(found[1]), hashlib.md5(run.stdout).hexdigest()
 
 
+def is_waiting(run):
+    """Whether a program has processed the input that it was sent, and waits for more. Then the pipe is empty, and the program
+    sleeps in the system call `read` (number 0) of its standard input (0)."""
+    if run.poll() is not None:
+        sys.exit("%s: ended with status %d before its input" % (" ".join(run.args), run.returncode))
+    if struct.unpack("i", fcntl.ioctl(run.stdin, termios.FIONREAD, bytes(4)))[0]:
+        return False
+    with open("/proc/%d/syscall" % run.pid) as file:
+        return file.read().startswith("0 0x0 ")
+
+
 def kept_at_most(words, lines, name, folder):
     """The peak memory of a program on some lines, in KB, as the system reports it before the run's input ends: when a line
-    after them fails, or when couch_lines has read all of its input.
+    after them fails, or when couch_lines has processed all of its input.
 
     A child's `rusage` would include the memory of this script, from which the child was forked.
     """
@@ -337,7 +348,7 @@ def kept_at_most(words, lines, name, folder):
             reader = threading.Thread(target=lambda: sum(map(len, run.stdout)))
             reader.start()
         writer.join()
-        while not is_script and struct.unpack("i", fcntl.ioctl(run.stdin, termios.FIONREAD, bytes(4)))[0]:
+        while not is_script and not is_waiting(run):
             time.sleep(0.01)
         with open("/proc/%d/status" % run.pid) as file:
             kept = int(re.search(r"VmHWM:\s*(\d+) kB", file.read())[1])
