@@ -1,5 +1,5 @@
 -- The parts of a line, and the lines of the bytes that were read.
-use Rattle.proof_prelude.proofs.{◌≡◌, ℕ, suc, zero, ◌+◌, ◌-◌, ◌<◌, ◌≤◌, ◌^◌, length-drop, Bool, true, false, not, cond, ◌||◌, if◌then◌else◌, List, [], ◌∷◌, ◌++◌, length, take, drop, take_all, drop_all, Option, None, Some, MatchOption, refl, sym, ap, subst, ◌∙◌, arith, eqb-true, append_assoc, Result, Ok, Err, OnErr, nat_lt, ltb-false, unwrap_or, none-some, position, prefix_len-le-length, length-take-le, drop-drop, Appends, Appends-trans}
+use Rattle.proof_prelude.proofs.{◌≡◌, ℕ, suc, ◌+◌, ◌-◌, ◌<◌, ◌≤◌, length-drop, Bool, true, false, not, cond, ◌||◌, List, [], ◌∷◌, ◌++◌, length, take, drop, take_all, drop_all, Option, None, Some, MatchOption, refl, sym, ap, subst, ◌∙◌, arith, eqb-true, append_assoc, Result, Ok, Err, OnErr, nat_lt, ltb-false, unwrap_or, none-some, position, prefix_len-le-length, length-take-le, drop-drop, Appends, Appends-trans}
 use Rattle.std.proofs.Math.Numerals.{one-add}
 use Rattle.std.specs.List.{position_or_len}
 use Rattle.std.specs.Str.{IsUtf8, trim}

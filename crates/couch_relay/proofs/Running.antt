@@ -1,8 +1,8 @@
 -- A run, exchange by exchange.
-use Rattle.proof_prelude.proofs.{◌≡◌, ℕ, ◌⊎◌, inl, inr, Bool, true, false, true≢false, List, [], ◌∷◌, ◌++◌, Option, None, Some, MatchOption, refl, sym, ap, subst, ◌∙◌, append_assoc, append-nil, Appends, Appends-nil, Appends-trans, string_bytes, drop, Result, Ok, Err, IfOk, OnOk, OnErr, unwrap_or}
+use Rattle.proof_prelude.proofs.{◌≡◌, ℕ, ◌⊎◌, inl, inr, true, true≢false, List, [], ◌∷◌, ◌++◌, Option, None, Some, MatchOption, refl, sym, ap, subst, ◌∙◌, append_assoc, append-nil, Appends, Appends-nil, Appends-trans, string_bytes, drop, Result, Ok, Err, IfOk, OnErr, unwrap_or}
 use Rattle.relay_core.specs.declared.phase.Phase.{Phase}
 use Rattle.relay_core.specs.declared.messages.Side.TheVariants.{Target}
-use Rattle.relay_core.specs.Messages.{Text, Exchange, exchange_of, RequestView, get_log, ResponseView}
+use Rattle.relay_core.specs.Messages.{Text, Exchange, exchange_of, RequestView, get_log}
 use Rattle.relay_core.specs.Views.{response_view}
 use Rattle.relay_core.specs.Justified.{MayAsk, IsJustified}
 use Rattle.relay_core.specs.Known.{asked_of, Knows}
@@ -11,7 +11,7 @@ use Rattle.relay_requests.specs.Requests.{request_text}
 use Rattle.relay_requests.specs.declared.options.RequestOptions.{RequestOptions}
 use Rattle.couch_relay.specs.declared.exchange.Dated.{Dated}
 use Rattle.std.specs.Str.{IsUtf8}
-use Rattle.couch_relay.specs.Frames.{HeadView, IsFrame, NoFrame}
+use Rattle.couch_relay.specs.Frames.{HeadView, IsFrame}
 use Rattle.couch_relay.specs.Inbox.{Took}
 use Rattle.script_engine.specs.declared.fault.ScriptFault.{ScriptFault}
 use Rattle.couch_relay.specs.declared.options.Options.{Options}
@@ -20,7 +20,7 @@ use Rattle.couch_relay.specs.declared.options.NoOptions.TheVariants.{NoNumber}
 use Rattle.couch_relay.specs.declared.run.Ended.{Ended}
 use Rattle.couch_relay.specs.declared.run.Ended.TheVariants as end
 use Rattle.couch_relay.specs.Options.{Says, Refuses}
-use Rattle.couch_relay.specs.Runs.{IsResponse, Receives, Exchanged, IsRun, status_after, Ran, RanUntil, AreOptions, IsChoice, NoChoice, TakesChoice, ReadsChoice, FindsChoice, on_one_line, Runs, RunsUntil, RunsOptions, RunsWords, IfRan}
+use Rattle.couch_relay.specs.Runs.{Receives, Exchanged, IsRun, status_after, Ran, RanUntil, AreOptions, IsChoice, NoChoice, TakesChoice, ReadsChoice, FindsChoice, on_one_line, Runs, RunsUntil, RunsWords, IfRan}
 
 -- what was read and written so far; the bytes that were pending at first and that are pending now; and the phase
 pub record Going (o : RequestOptions) (taken taken' held held' : Option (List ℕ)) (before now : List ℕ) (phase : Phase) : Type 0 where

@@ -1,8 +1,7 @@
 -- Defines the input bytes that the relay has read, but not yet used, as specified in docs/PROFILE.md, "Responses to the
 -- relay".
-use Rattle.std.specs.Prelude.{◌≡◌, ◌+◌, ◌<◌, ◌≤◌, ℕ, false, List, ◌∷◌, ◌++◌, Option, length, take, drop, string_bytes, MatchOption}
+use Rattle.std.specs.Prelude.{◌≡◌, ◌+◌, ◌<◌, ◌≤◌, ℕ, List, ◌++◌, Option, length, take, drop, string_bytes, MatchOption}
 use Rattle.std.specs.Io.KnownBytes.{Appends}
-use Rattle.script_engine.specs.Lines.{has_line_end}
 use Rattle.couch_relay.specs.declared.inbox.Inbox.{Inbox}
 use Rattle.couch_relay.specs.declared.inbox.Head.{Head}
 use Rattle.couch_relay.specs.Frames.{HeadView, IsHead, IsLine, NoFrame}

@@ -14,6 +14,7 @@ use Rattle.couch_relay.specs.declared.exchange.Dated.{Dated}
 use Rattle.couch_relay.specs.declared.options.Options.{Options}
 use Rattle.couch_relay.specs.declared.run.Ended.{Ended}
 use Rattle.couch_relay.specs.declared.run.Ended.TheVariants as end
+use Rattle.couch_relay.specs.Faults.{RunCounts}
 use Rattle.couch_relay.specs.Frames.{HeadView, IsFrame, NoFrame}
 use Rattle.couch_relay.specs.Options.{Says, Refuses}
 
@@ -208,6 +209,12 @@ abbrev pub RunsWords : List Text → Type 0 → List ℕ → List ℕ → Ended 
 RunsWords words ended input text (end.NotRun why) = (input ≡ []) × (text ≡ []) × Refuses words why
 RunsWords words ended input text (end.Ran ran) =
     (options : Options) × Says words options × RunsOptions options ended input text ran
+
+-- How the program changed the failure counts of its reader and writer. The arguments are those of `RunCounts`. If the
+-- arguments give no options, both counts are unchanged.
+abbrev pub EndedCounts : Ended → ℕ → ℕ → ℕ → ℕ → ℕ → ℕ → Type 0
+EndedCounts (end.NotRun why) reads reader reader' writer writer' size = (reader' ≡ reader) × (writer' ≡ writer)
+EndedCounts (end.Ran ran) reads reader reader' writer writer' size = RunCounts ran reads reader reader' writer writer' size
 
 -- If the program made a run, and the run ended with an exit status, the statement p is true.
 abbrev pub IfRan : Ended → Type 0 → Type 0

@@ -3,6 +3,7 @@ ghost use Rattle.std.specs.Prelude.{◌≡◌, ◌++◌, ℕ, List, IfOk, OnOk, 
 ghost use Rattle.std.specs.Io.KnownBytes.{Appends, Keeps};
 ghost use Rattle.relay_core.specs.Views.{request_view};
 ghost use Rattle.relay_requests.specs.Requests.{request_text};
+ghost use Rattle.couch_relay.specs.Faults.{ReadCounts, WriteCounts};
 ghost use Rattle.couch_relay.specs.Inbox.{pending, IsInbox, Took};
 ghost use Rattle.couch_relay.specs.Runs.{Receives};
 
@@ -29,6 +30,7 @@ pub(crate) struct Dated {
 fn pass_on<W: ScriptWrite>(writer: &mut W) -> Result<(), ScriptFault>
     ensures bytes { Keeps (W.held writer.old) (W.held writer.new) }
     ensures sent { OnOk result (Keeps (W.held writer.new) (W.sent writer.new)) }
+    ensures counts { WriteCounts result (W.failures writer.old) (W.failures writer.new) }
 {
     match writer.flush() {
         Ok(()) => Ok(()),
@@ -53,6 +55,7 @@ pub(crate) fn send<W: ScriptWrite>(
     ensures err { OnErr result ((front : List ℕ) × (back : List ℕ)
         × (request_text options.now (request_view request.now) ≡ front ++ back)
         × Appends (W.held writer.old) (W.held writer.new) front) }
+    ensures counts { WriteCounts result (W.failures writer.old) (W.failures writer.new) }
 {
     let text = write_request(alloc, options, request)?;
     write_all(writer, text.as_slice())?;
@@ -72,6 +75,7 @@ pub(crate) fn receive<R: ScriptRead>(
     ensures response { IfOk result (λ o. Receives (request_view request.now) (R.taken reader.old) (R.taken reader.new)
         (R.ended reader.new) (pending inbox.old) (pending inbox.new) o) }
     ensures err { OnErr result (Took (R.taken reader.old) (R.taken reader.new)) }
+    ensures counts { ReadCounts result (R.reads reader.new) (R.failures reader.old) (R.failures reader.new) }
 {
     let Some(head) = inbox.head(alloc, reader)? else {
         return Ok(None);

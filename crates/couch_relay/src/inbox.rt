@@ -2,6 +2,8 @@
 ghost use Rattle.std.specs.Prelude.{ℕ, ◌≡◌, ◌≤◌, ◌<◌, [], length, position, take, drop, true, false, IfOk, OnOk, OnErr, MatchOption};
 ghost use Rattle.std.specs.List.{position_or_len};
 ghost use Rattle.script_engine.specs.Lines.{is_line_end, has_line_end};
+ghost use Rattle.script_engine.specs.Device.{counted};
+ghost use Rattle.couch_relay.specs.Faults.{ReadCounts};
 ghost use Rattle.couch_relay.specs.Frames.{HeadView, IsHead, IsNumber, word_in, rest_in, side_in};
 ghost use Rattle.couch_relay.specs.Inbox.{head_view, pending, IsInbox, Took, Filled, HasLine, ReadsHead};
 
@@ -135,6 +137,8 @@ impl Inbox {
         ensures filled { OnOk result (Filled (R.taken reader.old) (R.taken reader.new) (pending self.old) (pending self.new)) }
         ensures end { IfOk result (λ more. more ≡ false → R.ended reader.new × (pending self.new ≡ pending self.old)) }
         ensures err { OnErr result (Took (R.taken reader.old) (R.taken reader.new)) }
+        ensures counts { ReadCounts result (R.reads reader.new) (R.failures reader.old) (R.failures reader.new) }
+        ensures asked { R.reads reader.new ≡ counted (R.reads reader.old) 1 }
     {
         let Ok(count) = reader.read(self.buffer.as_mut_slice()) else {
             return Err(ScriptFault::Read);
@@ -152,6 +156,7 @@ impl Inbox {
         ensures found { IfOk result (λ o. MatchOption o (R.ended reader.new × (has_line_end (pending self.new) ≡ false))
             (λ size. HasLine (pending self.new) size)) }
         ensures err { OnErr result (Took (R.taken reader.old) (R.taken reader.new)) }
+        ensures counts { ReadCounts result (R.reads reader.new) (R.failures reader.old) (R.failures reader.new) }
     {
         for _turn in 0..u64::MAX {
             let size = line_len(&self.held.as_slice()[self.at..]);
@@ -177,6 +182,7 @@ impl Inbox {
         ensures head { IfOk result (λ o.
             ReadsHead (R.taken reader.old) (R.taken reader.new) (R.ended reader.new) (pending self.old) (pending self.new) o) }
         ensures err { OnErr result (Took (R.taken reader.old) (R.taken reader.new)) }
+        ensures counts { ReadCounts result (R.reads reader.new) (R.failures reader.old) (R.failures reader.new) }
     {
         let Some(size) = self.line(reader)? else {
             return Ok(None);
@@ -199,6 +205,7 @@ impl Inbox {
         ensures held { IfOk result (λ found. found ≡ true → size ≤ length (pending self.new)) }
         ensures end { IfOk result (λ found. found ≡ false → R.ended reader.new × (length (pending self.new) < size)) }
         ensures err { OnErr result (Took (R.taken reader.old) (R.taken reader.new)) }
+        ensures counts { ReadCounts result (R.reads reader.new) (R.failures reader.old) (R.failures reader.new) }
     {
         for _turn in 0..u64::MAX {
             if self.held.len() - self.at >= size {

@@ -3,8 +3,9 @@ ghost use Rattle.std.specs.Prelude.{◌≡◌, ◌++◌, ℕ, List, [], ◌==◌
 ghost use Rattle.std.specs.Str.{IsUtf8};
 ghost use Rattle.std.specs.Io.KnownBytes.{Appends, Keeps};
 ghost use Rattle.relay_core.specs.Views.{request_view};
+ghost use Rattle.couch_relay.specs.Faults.{ReadCounts, RunCounts};
 ghost use Rattle.couch_relay.specs.Inbox.{pending, IsInbox, Took};
-ghost use Rattle.couch_relay.specs.Runs.{status_after, on_line, on_one_line, AreOptions, ReadsChoice, FindsChoice, IfRan, Ran, RanUntil, Runs, RunsUntil, RunsWords};
+ghost use Rattle.couch_relay.specs.Runs.{status_after, on_line, on_one_line, AreOptions, ReadsChoice, FindsChoice, EndedCounts, IfRan, Ran, RanUntil, Runs, RunsUntil, RunsWords};
 
 use crate::exchange::{receive, send};
 use crate::inbox::Inbox;
@@ -72,6 +73,7 @@ fn read_choice<R: ScriptRead>(
     ensures choice { IfOk result (λ o. ReadsChoice (R.taken reader.old) (R.taken reader.new) (R.ended reader.new)
         (pending inbox.old) (pending inbox.new) (option_map string_bytes o)) }
     ensures err { OnErr result (Took (R.taken reader.old) (R.taken reader.new)) }
+    ensures counts { ReadCounts result (R.reads reader.new) (R.failures reader.old) (R.failures reader.new) }
 {
     let Some(head) = inbox.head(alloc, reader)? else {
         return Ok(None);
@@ -168,6 +170,9 @@ fn make_requests<R: ScriptRead, W: ScriptWrite>(
     ensures err { OnErr result ((input : List ℕ) × (text : List ℕ)
         × Appends (R.taken reader.old) (R.taken reader.new) input × Appends (W.held writer.old) (W.held writer.new) text
         × RanUntil requests.now (pending inbox.old ++ input) text) }
+    ensures counts { (text : List ℕ) × Appends (W.held writer.old) (W.held writer.new) text
+        × RunCounts result (R.reads reader.new) (R.failures reader.old) (R.failures reader.new)
+        (W.failures writer.old) (W.failures writer.new) (length text) }
 {
     let mut scratch = Scratch::new(alloc);
     let mut phase = Phase::start(alloc, settings)?;
@@ -198,6 +203,7 @@ fn choice_of<R: ScriptRead>(
     ensures choice { IfOk result (λ o. FindsChoice options.now (R.taken reader.old) (R.taken reader.new) (R.ended reader.new)
         (pending inbox.old) (pending inbox.new) (option_map string_bytes o)) }
     ensures err { OnErr result (Took (R.taken reader.old) (R.taken reader.new)) }
+    ensures counts { ReadCounts result (R.reads reader.new) (R.failures reader.old) (R.failures reader.new) }
 {
     if options.choice {
         read_choice(alloc, inbox, reader)
@@ -226,6 +232,9 @@ pub(crate) fn run<R: ScriptRead, W: ScriptWrite>(
     ensures err { OnErr result ((input : List ℕ) × (text : List ℕ)
         × Appends (R.taken reader.old) (R.taken reader.new) input × Appends (W.held writer.old) (W.held writer.new) text
         × RunsUntil options.now input text) }
+    ensures counts { (text : List ℕ) × Appends (W.held writer.old) (W.held writer.new) text
+        × RunCounts result (R.reads reader.new) (R.failures reader.old) (R.failures reader.new)
+        (W.failures writer.old) (W.failures writer.new) (length text) }
 {
     let mut inbox = Inbox::new(alloc)?;
     let Some(choice) = choice_of(alloc, options, &mut inbox, reader)? else {
@@ -248,6 +257,9 @@ pub(crate) fn run_words<R: ScriptRead, W: ScriptWrite>(
         × Appends (R.taken reader.old) (R.taken reader.new) input × Appends (W.held writer.old) (W.held writer.new) text
         × RunsWords (map string_bytes words.now) (R.ended reader.new) input text result }
     ensures sent { Keeps (W.held writer.old) (W.sent writer.old) → IfRan result (Keeps (W.held writer.new) (W.sent writer.new)) }
+    ensures counts { (text : List ℕ) × Appends (W.held writer.old) (W.held writer.new) text
+        × EndedCounts result (R.reads reader.new) (R.failures reader.old) (R.failures reader.new)
+        (W.failures writer.old) (W.failures writer.new) (length text) }
 {
     let matches = match matches_of(alloc, words) {
         Ok(matches) => matches,

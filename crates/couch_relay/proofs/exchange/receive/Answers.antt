@@ -1,4 +1,4 @@
-use Rattle.proof_prelude.proofs.{List, ◌++◌, Option, inl, inr, subst, refl, ap, ◌∙◌}
+use Rattle.proof_prelude.proofs.{◌++◌, Option, subst, refl, ap, ◌∙◌}
 use Rattle.couch_relay.specs.declared.inbox.Head.{Head}
 use Rattle.couch_relay.specs.Inbox.{pending, head_view, ReadsHead}
 use Rattle.couch_relay.proofs.Lines.{any_err, none_of, took_after, body_took, body_cut, body_frame, body_parts, body_is}

@@ -1,7 +1,6 @@
 use Rattle.proof_prelude.proofs.{ap, refl, subst, ◌≡◌, ◌∙◌, true, map, string_bytes}
 use Rattle.clap.specs.Words.{HasKind, fault_of, is_simple_and_free}
 use Rattle.clap.proofs.OnLiterals.{clap_on_literals}
-use Rattle.cli_common.specs.{IsFound}
 use Rattle.couch_relay.specs.Options.{command_line}
 use Rattle.couch_relay.proofs.options.matches_of.Goals as goal
 

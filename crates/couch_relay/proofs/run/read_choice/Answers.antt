@@ -1,7 +1,7 @@
-use Rattle.proof_prelude.proofs.{List, ◌++◌, string_bytes, option_map, Option, inl, inr, subst, refl, ap, ◌∙◌}
+use Rattle.proof_prelude.proofs.{◌++◌, string_bytes, option_map, Option, inl, subst}
 use Rattle.couch_relay.specs.declared.inbox.Head.{Head}
 use Rattle.couch_relay.specs.Inbox.{pending, head_view, ReadsHead}
-use Rattle.couch_relay.proofs.Lines.{any_err, none_of, took_after, body_took, body_cut, body_frame, body_parts, body_is}
+use Rattle.couch_relay.proofs.Lines.{any_err, none_of, took_after, body_took, body_cut, body_parts, body_is}
 use Rattle.couch_relay.proofs.Running.{chosen_body}
 use Rattle.couch_relay.proofs.run.read_choice.Goals as goal
 

@@ -1,4 +1,4 @@
-use Rattle.proof_prelude.proofs.{List, ℕ, [], Option, None, Some, option_map, string_bytes, subst, ap, ◌∙◌}
+use Rattle.proof_prelude.proofs.{List, ℕ, [], Option, option_map, string_bytes, subst, ap}
 use Rattle.relay_core.specs.Messages.{Text}
 use Rattle.couch_relay.specs.Inbox.{pending}
 use Rattle.couch_relay.specs.Runs.{FindsChoice}

@@ -1,4 +1,4 @@
-use Rattle.proof_prelude.proofs.{ap, ◌∙◌, arith, length-drop}
+use Rattle.proof_prelude.proofs.{inr, ap, ◌∙◌, arith, length-drop}
 use Rattle.std.specs.List.{position_or_len}
 use Rattle.script_engine.specs.Lines.{is_line_end, has_line_end}
 use Rattle.couch_relay.specs.Inbox.{pending}
@@ -23,3 +23,6 @@ returns-then-not-branch-clause-found g c =
           (c.line_len-size.ensures ∙ ap (position_or_len is_line_end) (rest_is c.as_slice.result.now c.loop-turn.self.held.items c.loop-turn.self.at c.as_slice.ensures.value))
           (omega (arith, c.if-size-len.false, c.len.ensures, c.loop-turn.self.held.ok.0, length-drop c.loop-turn.self.at c.loop-turn.self.held.items)),
     )
+
+pub returns-clause-counts : goal.returns-clause-counts
+returns-clause-counts g c = inr (omega (arith, c.loop-turn-test.false, c.loop-turn.invariant.reads), c.loop-turn.invariant.unfailing)
